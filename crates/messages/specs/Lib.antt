@@ -1,0 +1,4 @@
+pub mod Notes
+pub mod Pens
+pub mod Refusals
+pub mod Texts
