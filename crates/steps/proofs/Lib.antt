@@ -1,0 +1,10 @@
+mod Alike
+mod Choosing
+mod Counting
+mod Headers
+mod Insides
+mod Lengths
+mod Numbered
+mod Posts
+mod Progressing
+mod Stopping

@@ -1,0 +1,9 @@
+pub mod Beginnings
+pub mod Formats
+pub mod Lawful
+pub mod Layout
+pub mod Ranges
+pub mod Reading
+pub mod Progress
+pub mod Opening
+pub mod Texts

@@ -1,0 +1,52 @@
+// Posts of pen messages.
+ghost use mathlib.Core.Path.{_≡_};
+ghost use Prim.Native.Nat.{_≤_};
+ghost use Rattle.steps.specs.Formats.{pen-format, stage-byte};
+use crate::posted::Posted;
+use crate::ranges::ByteRange;
+use crate::ranges::cut;
+use messages::pen::PenMessage;
+use messages::pen::PenMessageMessage;
+use messages::pen::PenMessageTimed;
+use messages::pen::Stage;
+
+// Step 1, the pad, the stage, and x, y and force of two bytes each.
+const POST: [ByteRange; 10] = [
+    ByteRange { low: 1, high: 1 },
+    ByteRange::ANY,
+    ByteRange { low: 1, high: 3 },
+    ByteRange::ZERO,
+    ByteRange::ANY,
+    ByteRange::ANY,
+    ByteRange::ANY,
+    ByteRange::ANY,
+    ByteRange::ANY,
+    ByteRange::ANY,
+];
+
+pub impl Posted for PenMessage as PenMessagePosted {
+    ghost format = { pen-format };
+
+    fn read_post(bytes: &[u8]) -> Result<PenMessage, usize> {
+        let record = cut(bytes, &POST)?;
+        Ok(PenMessage {
+            pad: record[1],
+            stage: stage_of(record[2]),
+            x: u16::from_be_bytes([record[4], record[5]]),
+            y: u16::from_be_bytes([record[6], record[7]]),
+            force: u16::from_be_bytes([record[8], record[9]]),
+        })
+    }
+}
+
+fn stage_of(byte: u8) -> Stage
+    requires { ⌜ 1 ≤ byte ⌝ ∗ ⌜ byte ≤ 3 ⌝ }
+    ensures { λ r. ⌜ stage-byte r ≡ byte ⌝ }
+{
+    match byte {
+        1 => Stage::Down,
+        2 => Stage::Sample,
+        3 => Stage::Up,
+        _ => unreachable(),
+    }
+}
