@@ -72,10 +72,12 @@ pub impl fmt::Display for Note as NoteDisplay {
     ghost shown = { λ n. Some (note-text n) };
 
     fn fmt<W: fmt::Write>(&self, f: &mut fmt::Formatter<W>) -> fmt::Result {
-        let pad = self.pad;
-        let kind = self.kind;
-        let interval = self.interval;
-        let payload = self.payload;
+        let Note {
+            pad,
+            kind,
+            interval,
+            payload,
+        } = *self;
         write!(
             f,
             "note {kind} pad {pad} interval {interval} payload {payload}"

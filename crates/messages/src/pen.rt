@@ -10,9 +10,9 @@ use std::fmt;
 // Where in a line the pen is: it is set down, moves on, or is lifted.
 #[derive(Clone, Copy, Debug, PartialEq, Eq)]
 pub enum Stage {
-    Down,
-    Sample,
-    Up,
+    Down = 1,
+    Sample = 2,
+    Up = 3,
 }
 
 impl Stage {
@@ -20,11 +20,7 @@ impl Stage {
     pub fn kind(self) -> u8
         ensures { λ r. ⌜ r ≡ told-by self .kind ⌝ }
     {
-        match self {
-            Stage::Down => 1,
-            Stage::Sample => 2,
-            Stage::Up => 3,
-        }
+        self as u8
     }
 
     // The interval of a pen message in this stage, in hub cycles.
@@ -88,11 +84,13 @@ pub impl fmt::Display for PenMessage as PenMessageDisplay {
     ghost shown = { λ m. Some (pen-text m) };
 
     fn fmt<W: fmt::Write>(&self, f: &mut fmt::Formatter<W>) -> fmt::Result {
-        let pad = self.pad;
-        let stage = self.stage;
-        let x = self.x;
-        let y = self.y;
-        let force = self.force;
+        let PenMessage {
+            pad,
+            stage,
+            x,
+            y,
+            force,
+        } = *self;
         write!(f, "pen {stage} pad {pad} x {x} y {y} force {force}")
     }
 }

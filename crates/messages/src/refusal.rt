@@ -17,7 +17,7 @@ pub enum Refusal {
     IntervalOutOfRange = 5,
     // the tray is full, or the bank is
     Full = 6,
-    // the next receipt would be 4,000,000,000
+    // the next receipt is 4,000,000,000, so none is left to give
     ReceiptsUsedUp = 7,
     // the timer's cycle is not the next one
     NotNextCycle = 8,

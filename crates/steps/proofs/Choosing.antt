@@ -16,6 +16,7 @@ use Rattle.steps.specs.declared.step.Step.the-variants.{Post, Dispatch, Turn, 
 use Rattle.steps.specs.Beginnings.{common, Longest}
 use Rattle.steps.specs.Layout.{Byte, Format, bare-bytes, step-bytes}
 use Rattle.steps.specs.Ranges.{Cut, Within, inside}
+use Rattle.steps.specs.Tables.{first-ranges}
 use Rattle.steps.specs.Reading.{Is-bare, Is-numbered, Is-post, Is-step, Reads, Some-is}
 use Rattle.steps.proofs.Alike.{common-apart, common-fits}
 
@@ -25,9 +26,6 @@ step-number Dispatch = 2
 step-number (Turn n) = 3
 step-number Name = 4
 step-number (Warn n) = 5
-
-abbrev first-ranges : List ByteRange
-first-ranges = record { low = 1; high = 5 } ∷ []
 
 five : {M : Type 0} (s : Step M) → (1 ≤ step-number s) × (step-number s ≤ 5)
 five (Post m) = (omega arith, omega arith)
@@ -109,7 +107,10 @@ module _ {M : Type 0} (f : Format M) where
   of-warn Name g e is = absurd (omega arith)
   of-warn (Warn n) g e is = (n, is)
 
-  module _ (bytes : List ℕ) (part : RefT (List ℕ)) (k : ℕ) (c : Cut first-ranges bytes (Ok part)) where
+  module _ (rs : List ByteRange) (table : rs ≡ first-ranges) (bytes : List ℕ) (part : RefT (List ℕ)) (k : ℕ) (cut : Cut rs bytes (Ok part)) where
+    c : Cut first-ranges bytes (Ok part)
+    c = subst (λ x. Cut x bytes (Ok part)) table cut
+
     pub post-refused : getD (part .now) 0 0 ≡ 1 → Reads (Is-post f) 10 bytes (Err k) → Reads (Is-step f) 10 bytes (Err k)
     post-refused e r = among 1 Post (λ m g is. is) of-post bytes k (first-byte bytes (part .now) 1 (c .0) (c .1) e) r
 
@@ -142,7 +143,8 @@ module _ {M : Type 0} (f : Format M) where
         },
       )
 
-  pub unknown-refused : (bytes : List ℕ) (k : ℕ) → Cut first-ranges bytes (Err k) → Reads (Is-step f) 10 bytes (Err k)
-  unknown-refused bytes k c =
+  pub unknown-refused : (rs : List ByteRange) → rs ≡ first-ranges → (bytes : List ℕ) (k : ℕ) → Cut rs bytes (Err k) → Reads (Is-step f) 10 bytes (Err k)
+  unknown-refused rs table bytes k cut =
+      let c = subst (λ x. Cut x bytes (Err k)) table cut in
       let none : k ≡ 0 = omega (arith, c .1) in
       subst (λ n. Reads (Is-step f) 10 bytes (Err n)) (sym none) (all-apart bytes (λ s g is. outside s g bytes is (sym (c .0) ∙ none)))

@@ -18,13 +18,9 @@ use Rattle.steps.specs.declared.header.Header.{Header}
 use Rattle.std.specs.declared.result.Result.the-variants.{Err}
 use Rattle.steps.specs.Ranges.{Cut, Within}
 use Rattle.steps.specs.Layout.{header-bytes, type-number, bank-number}
+use Rattle.steps.specs.Tables.{header-ranges}
 use Rattle.steps.specs.Reading.{Is-header, Reads, Some-is}
-use Rattle.steps.proofs.Insides.{cut-refused, only}
-
-abbrev pub header-ranges : List ByteRange
-header-ranges =
-    only 0x45 ∷ only 0x56 ∷ only 0x51 ∷ only 0 ∷ only 1 ∷ record { low = 1; high = 2 } ∷ record { low = 2; high = 128 }
-    ∷ record { low = 1; high = 2 } ∷ []
+use Rattle.steps.proofs.Insides.{cut-refused}
 
 type-of : (n : ℕ) → 1 ≤ n → n ≤ 2 → (t : MessageType) × (type-number t ≡ n)
 type-of n l h = ⊎-elim (λ e. (type.Pen, sym e)) (λ e. (type.Note, omega arith)) (cases-eq n 1)

@@ -18,13 +18,6 @@ use Rattle.steps.specs.Ranges.{Cut, inside, Within}
 use Rattle.steps.specs.Reading.{Reads, Some-is}
 use Rattle.steps.proofs.Alike.{common-same, common-apart, longest-same}
 
--- any byte, and one byte alone
-abbrev pub any : ByteRange
-any = record { low = 0; high = 255 }
-
-abbrev pub only : ℕ → ByteRange
-only n = record { low = n; high = n }
-
 -- a range that holds some byte, and only bytes
 abbrev pub Sound : ByteRange → Type 0
 Sound r = (r .low ≤ r .high) × (r .high < 256)

@@ -1,6 +1,6 @@
 mod Alike
 mod Choosing
-mod Counting
+pub mod Counting
 mod Headers
 mod Insides
 mod Lengths

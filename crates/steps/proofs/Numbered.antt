@@ -10,14 +10,9 @@ use Rattle.std.specs.shelf.Lists.{All}
 use Rattle.steps.specs.declared.ranges.ByteRange.{ByteRange}
 use Rattle.steps.specs.Layout.{Byte, bare-bytes, numbered-bytes}
 use Rattle.steps.specs.Ranges.{Cut, Within}
+use Rattle.steps.specs.Tables.{bare-ranges, numbered-ranges}
 use Rattle.steps.specs.Reading.{Is-bare, Is-numbered, Reads, Some-is}
-use Rattle.steps.proofs.Insides.{any, cut-refused, only, Sound, within-bytes}
-
-abbrev bare-ranges : ℕ → List ByteRange
-bare-ranges step = only step ∷ replicate 9 (only 0)
-
-abbrev numbered-ranges : ℕ → List ByteRange
-numbered-ranges step = only step ∷ replicate 3 (only 0) ++ replicate 4 any ++ replicate 2 (only 0)
+use Rattle.steps.proofs.Insides.{cut-refused, Sound, within-bytes}
 
 module _ (step : ℕ) (small : step < 256) where
   bare-sound : All Sound (bare-ranges step)

@@ -20,14 +20,9 @@ use Rattle.steps.specs.declared.ranges.ByteRange.{ByteRange}
 use Rattle.steps.specs.Formats.{note-format, note-laid, pen-format, pen-laid, stage-byte}
 use Rattle.steps.specs.Layout.{Byte}
 use Rattle.steps.specs.Ranges.{Cut, Within}
+use Rattle.steps.specs.Tables.{note-ranges, pen-ranges}
 use Rattle.steps.specs.Reading.{Is-post, Reads, Some-is}
-use Rattle.steps.proofs.Insides.{any, cut-refused, only, within-bytes}
-
-abbrev pub pen-ranges : List ByteRange
-pen-ranges = only 1 ∷ any ∷ record { low = 1; high = 3 } ∷ only 0 ∷ any ∷ any ∷ any ∷ any ∷ any ∷ any ∷ []
-
-abbrev pub note-ranges : List ByteRange
-note-ranges = only 1 ∷ any ∷ any ∷ record { low = 11; high = 13 } ∷ any ∷ any ∷ any ∷ any ∷ only 0 ∷ only 0 ∷ []
+use Rattle.steps.proofs.Insides.{cut-refused, within-bytes}
 
 stage-of : (n : ℕ) → 1 ≤ n → n ≤ 3 → (s : Stage) × (stage-byte s ≡ n)
 stage-of n l h =

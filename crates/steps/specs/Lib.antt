@@ -7,3 +7,4 @@ pub mod Reading
 pub mod Progress
 pub mod Opening
 pub mod Texts
+pub mod Tables

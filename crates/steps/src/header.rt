@@ -3,6 +3,7 @@ ghost use mathlib.Core.Path.{_≡_};
 ghost use Prim.Native.Nat.{_≤_};
 ghost use Rattle.steps.specs.Layout.{bank-number, type-number};
 ghost use Rattle.steps.specs.Reading.{Is-header, Reads};
+ghost use Rattle.steps.specs.Tables.{header-ranges};
 use crate::ranges::ByteRange;
 use crate::ranges::cut;
 
@@ -28,39 +29,35 @@ pub struct Header {
     pub bank: BankKind,
 }
 
-// The mark "EVQ", the version 1, the type, the trays and the bank.
-const HEADER: [ByteRange; 8] = [
-    ByteRange {
-        low: 0x45,
-        high: 0x45,
-    },
-    ByteRange {
-        low: 0x56,
-        high: 0x56,
-    },
-    ByteRange {
-        low: 0x51,
-        high: 0x51,
-    },
-    ByteRange::ZERO,
-    ByteRange { low: 1, high: 1 },
-    ByteRange { low: 1, high: 2 },
-    ByteRange { low: 2, high: 128 },
-    ByteRange { low: 1, high: 2 },
-];
-
 impl Header {
     // The header that a file begins with; otherwise how many of its first bytes some header has too.
     pub fn read(file: &[u8]) -> Result<Header, usize>
         ensures { λ r. ⌜ Reads Is-header 8 (now (file .entry)) r ⌝ }
     {
-        let bytes = cut(file, &HEADER)?;
+        let ranges = header_ranges();
+        let bytes = cut(file, &ranges)?;
         Ok(Header {
             message_type: message_type_of(bytes[5]),
             trays: bytes[6],
             bank: bank_of(bytes[7]),
         })
     }
+}
+
+// The mark "EVQ", the version 1, the type, the trays and the bank.
+fn header_ranges() -> [ByteRange; 8]
+    ensures { λ r. ⌜ r ≡ header-ranges ⌝ }
+{
+    [
+        ByteRange::only(0x45),
+        ByteRange::only(0x56),
+        ByteRange::only(0x51),
+        ByteRange::only(0),
+        ByteRange::only(1),
+        ByteRange { low: 1, high: 2 },
+        ByteRange { low: 2, high: 128 },
+        ByteRange { low: 1, high: 2 },
+    ]
 }
 
 fn message_type_of(byte: u8) -> MessageType

@@ -3,7 +3,7 @@
 pub mod fault;
 pub mod header;
 pub mod posted;
-pub mod ranges;
+mod ranges;
 pub mod records;
 pub mod step;
 pub mod steps_file;

@@ -2,7 +2,6 @@
 ghost use mathlib.Core.Path.{_≡_};
 ghost use mathlib.Core.Bool.{_&&_};
 ghost use lib.Dec.{leb};
-ghost use Rattle.std.specs.Results.{Cases};
 ghost use Rattle.steps.specs.Ranges.{Cut, inside};
 
 // The bytes from `low` to `high`, both included.
@@ -15,9 +14,6 @@ pub struct ByteRange {
 impl ByteRange {
     // Any byte.
     pub const ANY: ByteRange = ByteRange { low: 0, high: 255 };
-
-    // A byte that means nothing.
-    pub const ZERO: ByteRange = ByteRange { low: 0, high: 0 };
 
     // This byte and no other.
     pub fn only(byte: u8) -> ByteRange

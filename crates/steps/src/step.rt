@@ -1,8 +1,7 @@
 // What one record of a steps file says.
 ghost use mathlib.Core.Path.{_≡_};
-ghost use mathlib.Core.List.{_∷_, _++_};
-ghost use lib.ListN.{replicate};
 ghost use Rattle.steps.specs.Reading.{Is-bare, Is-numbered, Is-step, Reads};
+ghost use Rattle.steps.specs.Tables.{bare-ranges, first-ranges, numbered-ranges};
 use crate::posted::Posted;
 use crate::ranges::ByteRange;
 use crate::ranges::cut;
@@ -17,15 +16,13 @@ pub enum Step<M> {
     Warn(u32),
 }
 
-// The first byte of a record names its step.
-const FIRST: [ByteRange; 1] = [ByteRange { low: 1, high: 5 }];
-
 impl<M: Posted> Step<M> {
     // The step that a record says; otherwise how many of its first bytes some record has too.
     pub fn read(bytes: &[u8]) -> Result<Step<M>, usize>
         ensures { λ r. ⌜ Reads (Is-step (M·Posted .format)) 10 (now (bytes .entry)) r ⌝ }
     {
-        let first = cut(bytes, &FIRST)?;
+        let ranges = first_ranges();
+        let first = cut(bytes, &ranges)?;
         match first[0] {
             1 => Ok(Step::Post(M::read_post(bytes)?)),
             2 => {
@@ -47,7 +44,7 @@ impl<M: Posted> Step<M> {
 fn read_bare(bytes: &[u8], step: u8) -> Result<(), usize>
     ensures { λ r. ⌜ Reads (Is-bare step) 10 (now (bytes .entry)) r ⌝ }
 {
-    let ranges = bare(step);
+    let ranges = bare_ranges(step);
     cut(bytes, &ranges)?;
     Ok(())
 }
@@ -56,15 +53,22 @@ fn read_bare(bytes: &[u8], step: u8) -> Result<(), usize>
 fn read_number(bytes: &[u8], step: u8) -> Result<u32, usize>
     ensures { λ r. ⌜ Reads (Is-numbered step) 10 (now (bytes .entry)) r ⌝ }
 {
-    let ranges = numbered(step);
+    let ranges = numbered_ranges(step);
     let record = cut(bytes, &ranges)?;
     Ok(u32::from_be_bytes([record[4], record[5], record[6], record[7]]))
 }
 
-fn bare(step: u8) -> [ByteRange; 10]
-    ensures { λ r. ⌜ r ≡ record { low = step; high = step } ∷ replicate 9 (record { low = 0; high = 0 }) ⌝ }
+// The first byte of a record names its step.
+fn first_ranges() -> [ByteRange; 1]
+    ensures { λ r. ⌜ r ≡ first-ranges ⌝ }
 {
-    let zero = ByteRange::ZERO;
+    [ByteRange { low: 1, high: 5 }]
+}
+
+fn bare_ranges(step: u8) -> [ByteRange; 10]
+    ensures { λ r. ⌜ r ≡ bare-ranges step ⌝ }
+{
+    let zero = ByteRange::only(0);
     [
         ByteRange::only(step),
         zero,
@@ -79,10 +83,10 @@ fn bare(step: u8) -> [ByteRange; 10]
     ]
 }
 
-fn numbered(step: u8) -> [ByteRange; 10]
-    ensures { λ r. ⌜ r ≡ record { low = step; high = step } ∷ replicate 3 (record { low = 0; high = 0 }) ++ replicate 4 (record { low = 0; high = 255 }) ++ replicate 2 (record { low = 0; high = 0 }) ⌝ }
+fn numbered_ranges(step: u8) -> [ByteRange; 10]
+    ensures { λ r. ⌜ r ≡ numbered-ranges step ⌝ }
 {
-    let zero = ByteRange::ZERO;
+    let zero = ByteRange::only(0);
     let any = ByteRange::ANY;
     [
         ByteRange::only(step),

@@ -10,5 +10,5 @@ returns-in-Break-cut c =
     let p = err-from-errBy (c .from-residual .result) (c .from-residual .ensures .1) in
     let k = c .in-Break-cut .field-0 .0 in
     let bytes = c .args .bytes .now in
-    let short = subst (λ rs. Cut rs bytes (Err k)) (c .bare-ranges .ensures) (c .in-Break-cut .ensures tt) in
+    let short = subst (λ rs. Cut rs bytes (Err k)) (c .bare-ranges-ranges .ensures) (c .in-Break-cut .ensures tt) in
     rw (p .1, p .2) (bare-refused (c .args .step) (c .fits .step .fits) bytes k short)

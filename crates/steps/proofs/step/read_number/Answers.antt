@@ -10,5 +10,5 @@ returns-in-Break-record c =
     let p = err-from-errBy (c .from-residual .result) (c .from-residual .ensures .1) in
     let k = c .in-Break-record .field-0 .0 in
     let bytes = c .args .bytes .now in
-    let short = subst (λ rs. Cut rs bytes (Err k)) (c .numbered-ranges .ensures) (c .in-Break-record .ensures tt) in
+    let short = subst (λ rs. Cut rs bytes (Err k)) (c .numbered-ranges-ranges .ensures) (c .in-Break-record .ensures tt) in
     rw (p .1, p .2) (numbered-refused (c .args .step) (c .fits .step .fits) bytes k short)
