@@ -6,7 +6,8 @@ use native.Mathlib.Nat.{add-zero, zero-mul, suc-mul, mul-le-mul-right, mul-pos}
 use native.Mathlib.Omega.{arith}
 use lib.ListN.{length, getD, take, length-append, length-take}
 use Rattle.rows.specs.declared.head.Head.{Head}
-use Rattle.rows.specs.Rings.{head-at, cell-at, ring, rings, counted, row-trays}
+use Rattle.rows.specs.Rings.{head-at, ring, rings, counted, row-trays}
+use Rattle.banks.specs.Tables.{cell-at}
 use Rattle.banks.specs.Trays.{tray-at, held-in}
 
 pub rings-length : {C : Type 0} (cells : List C) (size base : ℕ) (hs : List Head) → length (rings cells size base hs) ≡ length hs

@@ -8,11 +8,13 @@ use native.Mathlib.Numerals.{add-one}
 use native.Mathlib.Omega.{arith}
 use lib.ListN.{length, getD, set, take, drop, replicate, length-append, length-set}
 use Rattle.rows.specs.declared.head.Head.{Head}
-use Rattle.rows.specs.Rings.{no-head, head-at, cell-at, ring, rings, counted, row-trays}
+use Rattle.rows.specs.Rings.{no-head, head-at, ring, rings, counted, row-trays}
 use Rattle.std.specs.declared.option.Option.the-variants.{Some, None}
 use Rattle.std.proofs.shelf.Lists.{length-take, getD-take, set-getD, getD-past, set-past, nil-from-length, take-replicate}
 use Rattle.std.proofs.shelf.Tests.{cases-lt, cases-order}
 use Rattle.rows.proofs.RowLaws.{rings-length, rings-at, counted-within, ring-at-most, held-at-most, within-front}
+use Rattle.banks.proofs.Cells.{cell-one, cell-other, cell-read, cell-same, take-set}
+use Rattle.banks.specs.Tables.{cell-at}
 use Rattle.banks.specs.Trays.{tray-at, held-in, first-of, without-first, Has-room, No-room}
 
 -- heads
@@ -26,36 +28,6 @@ pub counted-more : (hs : List Head) (i : ℕ) → i < length hs → counted (tak
 counted-more [] i l = omega arith
 counted-more (h ∷ hs) zero l = omega arith
 counted-more (h ∷ hs) (suc i) l = let e = counted-more hs i (omega arith) in omega arith
-
-pub take-set : {C : Type 0} (n : ℕ) (l : List C) (i : ℕ) (a : C) → take n (set l i a) ≡ set (take n l) i a
-take-set zero l i a = refl
-take-set (suc n) [] i a = refl
-take-set (suc n) (x ∷ l) zero a = refl
-take-set (suc n) (x ∷ l) (suc i) a = ap (λ t. x ∷ t) (take-set n l i a)
-
--- cells
-
-pub cell-other : {C : Type 0} (cells : List C) (i j : ℕ) (c : C) → (i ≡ j → ⊥) → cell-at (set cells i c) j ≡ cell-at cells j
-cell-other [] i j c ne = refl
-cell-other (x ∷ xs) zero zero c ne = absurd (ne refl)
-cell-other (x ∷ xs) zero (suc j) c ne = refl
-cell-other (x ∷ xs) (suc i) zero c ne = refl
-cell-other (x ∷ xs) (suc i) (suc j) c ne = cell-other xs i j c (λ e. ne (ap suc e))
-
-pub cell-same : {C : Type 0} (cells : List C) (i : ℕ) (c : C) → i < length cells → cell-at (set cells i c) i ≡ c ∷ []
-cell-same [] i c l = absurd (omega arith)
-cell-same (x ∷ xs) zero c l = refl
-cell-same (x ∷ xs) (suc i) c l = cell-same xs i c (omega arith)
-
-pub cell-read : {C : Type 0} (cells : List C) (i : ℕ) (c : C) → i < length cells → c ≡ getD cells i c → cell-at cells i ≡ c ∷ []
-cell-read [] i c l e = absurd (omega arith)
-cell-read (x ∷ xs) zero c l e = ap (λ y. y ∷ []) (sym e)
-cell-read (x ∷ xs) (suc i) c l e = cell-read xs i c (omega arith) e
-
-pub cell-one : {C : Type 0} (cells : List C) (i : ℕ) → i < length cells → length (cell-at cells i) ≡ 1
-cell-one [] i l = absurd (omega arith)
-cell-one (x ∷ xs) zero l = refl
-cell-one (x ∷ xs) (suc i) l = cell-one xs i (omega arith)
 
 -- numbers
 
@@ -82,7 +54,7 @@ ring-mod cells base size from zero = refl
 ring-mod cells base size from (suc n) =
     let here : cell-at cells (base + from % size % size) ≡ cell-at cells (base + from % size) = ap (λ k. cell-at cells (base + k)) (mod-mod from size) in
     let on : ring cells base size (from % size + 1) n ≡ ring cells base size (from + 1) n =
-        sym (ring-mod cells base size (from % size + 1) n) ∙ ap (λ k. ring cells base size k n) (mod-add-mod from size 1) ∙ ring-mod cells base size (from + 1) n in
+    sym (ring-mod cells base size (from % size + 1) n) ∙ ap (λ k. ring cells base size k n) (mod-add-mod from size 1) ∙ ring-mod cells base size (from + 1) n in
     cc
 
 pub ring-push : {C : Type 0} (cells : List C) (base size from n : ℕ) → ring cells base size from (suc n) ≡ ring cells base size from n ++ cell-at cells (base + (from + n) % size)
@@ -136,10 +108,9 @@ rings-step cells after size base (h ∷ hs) (suc k) h′ pos same =
     let e : (base + size) + k * size ≡ base + suc k * size = omega (arith, suc-mul k size) in
     let here = ring-out cells after base size (h .first) (h .count) pos (λ j l u. same j (inl (omega arith))) in
     let on = rings-step cells after size (base + size) hs k h′ pos
-        (λ j s. same j (elim s [ inl l ↦ inl (omega arith) | inr u ↦ inr (omega arith) ])) in
+    (λ j s. same j (elim s [ inl l ↦ inl (omega arith) | inr u ↦ inr (omega arith) ])) in
     let moved = ap (λ b. ring after b size (h′ .first) (h′ .count)) e in
     cc
-
 
 pub held-counted : {C : Type 0} (cells : List C) (size base : ℕ) (hs : List Head) → 0 < size → base + length hs * size ≤ length cells → held-in (rings cells size base hs) ≡ counted hs
 held-counted cells size base [] pos fits = refl
@@ -212,17 +183,12 @@ row-put cells size n heads k c l fits room =
     let new : Head = record { first = h .first; count = h .count + 1 } in
     let cut : take n (set heads k new) ≡ set (take n heads) k new = take-set n heads k new in
     let step = rings-step cells (set cells at c) size 0 (take n heads) k new (omega arith)
-        (λ j s. cell-other cells at j c (λ e. elim s [ inl u ↦ omega arith | inr u ↦ omega arith ])) in
+    (λ j s. cell-other cells at j c (λ e. elim s [ inl u ↦ omega arith | inr u ↦ omega arith ])) in
     let z : 0 + k * size ≡ k * size = zero-add (k * size) in
     let one : h .count + 1 ≡ suc (h .count) = add-one (h .count) in
     let ringed : ring (set cells at c) (k * size) size (h .first) (h .count + 1) ≡ tray-at (row-trays cells size n heads) k ++ (c ∷ []) =
-        rw one (ring-put cells (k * size) size (h .first) (h .count) c room long) ∙ ap (λ t. t ++ (c ∷ [])) (sym (row-at cells size n heads k l)) in
+    rw one (ring-put cells (k * size) size (h .first) (h .count) c room long) ∙ ap (λ t. t ++ (c ∷ [])) (sym (row-at cells size n heads k l)) in
     cc
-
-pub take-none : {C : Type 0} (ts : List (List C)) (k : ℕ) → tray-at ts k ≡ [] → (None ≡ first-of (tray-at ts k)) × (ts ≡ set ts k (without-first (tray-at ts k)))
-take-none ts k e =
-    let same : without-first (tray-at ts k) ≡ tray-at ts k = ap without-first e ∙ sym e in
-    (sym (ap first-of e), sym (ap (λ t. set ts k t) same ∙ set-getD ts k []))
 
 pub row-take : {C : Type 0} (cells : List C) (size n : ℕ) (heads : List Head) (k : ℕ) (c : C) → k < n → n * size ≤ length cells → 0 < size → 0 < head-at heads k .count
     → c ≡ getD cells (k * size + head-at heads k .first % size) c
@@ -237,8 +203,8 @@ row-take cells size n heads k c l fits pos some read =
     let rest = ring cells (k * size) size (h .first + 1) (h .count - 1) in
     let one : h .count ≡ suc (h .count - 1) = omega arith in
     let tray : tray-at (row-trays cells size n heads) k ≡ c ∷ rest =
-        row-at cells size n heads k l ∙ ap (λ j. ring cells (k * size) size (h .first) j) one
-        ∙ ap (λ t. t ++ rest) (cell-read cells (k * size + h .first % size) c (omega arith) read) in
+    row-at cells size n heads k l ∙ ap (λ j. ring cells (k * size) size (h .first) j) one
+    ∙ ap (λ t. t ++ rest) (cell-read cells (k * size + h .first % size) c (omega arith) read) in
     let cut : take n (set heads k new) ≡ set (take n heads) k new = take-set n heads k new in
     let step = rings-step cells cells size 0 (take n heads) k new pos (λ j s. refl) in
     let z : 0 + k * size ≡ k * size = zero-add (k * size) in
@@ -266,7 +232,7 @@ pub put-step : {C : Type 0} (cells : List C) (size n : ℕ) (heads : List Head) 
     → row-trays (set cells place c) size′ n′ heads′ ≡ set (row-trays cells size n heads) k (tray-at (row-trays cells size n heads) k ++ (c ∷ []))
 put-step cells size n heads k c l fits room place size′ n′ heads′ ep es en eh =
     let e : row-trays (set cells place c) size′ n′ heads′ ≡ row-trays (set cells (k * size + (head-at heads k .first + head-at heads k .count) % size) c) size n (set heads k (record { first = head-at heads k .first; count = head-at heads k .count + 1 })) =
-        ap (λ p. row-trays (set cells p c) size′ n′ heads′) ep ∙ rw (es, en, eh) in
+    ap (λ p. row-trays (set cells p c) size′ n′ heads′) ep ∙ rw (es, en, eh) in
     e ∙ row-put cells size n heads k c l fits room
 
 pub take-step : {C : Type 0} (cells : List C) (size n : ℕ) (heads : List Head) (k : ℕ) (c : C) → k < n → n * size ≤ length cells → 0 < size → 0 < head-at heads k .count
@@ -298,13 +264,13 @@ row-free heads size k room i j lt e =
     let a : (head-at heads k .first + head-at heads k .count) % size < size = mod-lt _ (omega arith) in
     let b : (head-at heads i .first + j) % size < size = mod-lt _ (omega arith) in
     elim (cases-order k i) [
-      inl same ↦
-        let m = ap (λ x. x * size) same in
-        let n = ap (λ x. head-at heads x .count) same in
-        let o = ap (λ x. (head-at heads x .first + j) % size) same in
-        mod-apart (head-at heads k .first + j) (head-at heads k .first + head-at heads k .count) size (omega arith) (omega arith) (omega arith)
-    | inr other ↦ elim other [
-        inl less ↦ let m : suc k * size ≤ i * size = mul-le-mul-right size (omega arith) in omega (arith, suc-mul k size)
-      | inr more ↦ let m : suc i * size ≤ k * size = mul-le-mul-right size (omega arith) in omega (arith, suc-mul i size)
+      | inl same ↦
+          let m = ap (λ x. x * size) same in
+          let n = ap (λ x. head-at heads x .count) same in
+          let o = ap (λ x. (head-at heads x .first + j) % size) same in
+          mod-apart (head-at heads k .first + j) (head-at heads k .first + head-at heads k .count) size (omega arith) (omega arith) (omega arith)
+      | inr other ↦ elim other [
+        | inl less ↦ let m : suc k * size ≤ i * size = mul-le-mul-right size (omega arith) in omega (arith, suc-mul k size)
+        | inr more ↦ let m : suc i * size ≤ k * size = mul-le-mul-right size (omega arith) in omega (arith, suc-mul i size)
       ]
     ]

@@ -4,7 +4,8 @@ use mathlib.Core.List.{List, [], _∷_, _++_}
 use mathlib.Core.Bool.{cond}
 use Prim.Native.Nat.{ℕ, zero, suc, min, _+_, _*_, _/_, _%_, _≤_}
 use lib.Dec.{leb, eqb}
-use lib.ListN.{length, getD, take, drop}
+use lib.ListN.{length, getD, take}
+use Rattle.banks.specs.Tables.{cell-at}
 use Rattle.rows.specs.declared.head.Head.{Head}
 
 -- the head of a tray that is empty
@@ -13,10 +14,6 @@ no-head = record { first = 0; count = 0 }
 
 abbrev pub head-at : List Head → ℕ → Head
 head-at heads k = getD heads k no-head
-
--- the cell at a place of a table, and nothing past its end
-abbrev pub cell-at : {C : Type 0} → List C → ℕ → List C
-cell-at cells i = take 1 (drop i cells)
 
 -- n cells of the ring that has the places base, .. base + size - 1, from its place `from` on
 abbrev pub ring : {C : Type 0} → List C → ℕ → ℕ → ℕ → ℕ → List C

@@ -6,6 +6,7 @@ use crate::rows::Rows;
 use banks::cell::Cell;
 
 mod calls;
+
 pub use calls::RowBankBank;
 pub use calls::RowBankTrays;
 

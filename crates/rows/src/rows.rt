@@ -6,6 +6,7 @@ ghost use Rattle.rows.specs.Rings.{no-head, head-at, counted, row-limit, row-n
 use crate::head::Head;
 
 pub const MAX_TRAYS: usize = 128;
+
 pub const MAX_CELLS: usize = 1024;
 
 // How many cells each tray has, of so many trays over a table of `len` cells: 0 where there can be no tray.
@@ -128,6 +129,9 @@ impl Rows {
     {
         let head = self.heads[tray];
         let first = (head.first as usize + 1) % self.limit;
-        self.heads[tray] = Head { first: first as u16, count: head.count - 1 };
+        self.heads[tray] = Head {
+            first: first as u16,
+            count: head.count - 1,
+        };
     }
 }

@@ -11,5 +11,5 @@ returns g c =
       puts = c .put .ensures;
       accepted = λ e l.
           let some : 0 < length ts = omega arith in
-          c .put .ensures .placed l (empty-room ts (c .args .tray) _ _ e (g .B·Trays·met .«limits_leave_room» (c .args .bank .now) some)) .0
+          c .put .ensures .placed l (empty-room ts (c .args .tray) _ _ e (g .B·Trays·met .«limits_leave_room» (c .args .bank .now) some)) .0;
     }

@@ -12,5 +12,5 @@ returns c =
     record {
       place = refl;
       inside = row-place (c .args .tray) (s .trays) (s .limit) (s .trays * s .limit) (h .first + h .count) (omega arith) (omega arith) (s .some (omega arith));
-      free = row-free (s .heads) (s .limit) (c .args .tray) (c .pre .1)
+      free = row-free (s .heads) (s .limit) (c .args .tray) (c .pre .1);
     }

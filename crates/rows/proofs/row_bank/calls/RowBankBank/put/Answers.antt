@@ -48,13 +48,16 @@ returns g c =
       puts = record {
         absent = λ u. absurd (omega arith);
         full = λ _ s. absurd (elim s [ inl u ↦ omega arith | inr u ↦ omega arith ]);
-        placed = λ _ _. (refl, put-step (b .cells .now) (b .rows .limit) (b .rows .trays) (b .rows .heads) (c .args .tray) _ l (b .fits) room _ _ _ _
-          (c .end-place .ensures .place) (c .grow .ensures .limit) (c .grow .ensures .trays) (c .grow .ensures .heads));
-        limits = (c .grow .ensures .limit, same-product (c .grow .ensures .trays) (c .grow .ensures .limit))
+        placed = λ _ _. (
+          refl,
+          put-step (b .cells .now) (b .rows .limit) (b .rows .trays) (b .rows .heads) (c .args .tray) _ l (b .fits) room _ _ _ _
+              (c .end-place .ensures .place) (c .grow .ensures .limit) (c .grow .ensures .trays) (c .grow .ensures .heads),
+        );
+        limits = (c .grow .ensures .limit, same-product (c .grow .ensures .trays) (c .grow .ensures .limit));
       };
       fills = λ _. record {
         table = ap (λ i. set (b .cells .now) i (record { receipt = c .args .receipt; message = c .args .message })) (c .end-place .ensures .place);
-        heads = c .grow .ensures .heads
+        heads = c .grow .ensures .heads;
       };
-      lent = refl
+      lent = refl;
     }

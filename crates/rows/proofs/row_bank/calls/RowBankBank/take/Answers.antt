@@ -5,7 +5,8 @@ use borrow.Author.Needs.{needs}
 use lib.ListN.{length}
 use Rattle.std.specs.declared.option.Option.the-variants.{Some}
 use Rattle.std.proofs.shelf.Lists.{nil-from-length}
-use Rattle.rows.proofs.Turns.{row-holds, row-place, row-exists, take-step, take-none, same-product}
+use Rattle.banks.proofs.Cells.{take-none}
+use Rattle.rows.proofs.Turns.{row-holds, row-place, row-exists, take-step, same-product}
 use Rattle.rows.specs.Rings.{row-trays, head-at}
 use Rattle.rows.proofs.row_bank.calls.RowBankBank.take.Needs as need
 
@@ -44,9 +45,9 @@ returns g c =
     let pos = b .rows .some (omega arith) in
     let h = row-holds (b .cells .now) (b .rows .limit) (b .rows .trays) (b .rows .heads) (c .args .tray) l pos (b .fits) in
     let t = take-step (b .cells .now) (b .rows .limit) (b .rows .trays) (b .rows .heads) (c .args .tray) (c .index-self-place .result) l (b .fits) pos (omega arith) _ _ _ _
-        (c .start-place .ensures .place) (c .index-self-place .is) (c .shrink .ensures .limit) (c .shrink .ensures .trays) (c .shrink .ensures .heads) in
+    (c .start-place .ensures .place) (c .index-self-place .is) (c .shrink .ensures .limit) (c .shrink .ensures .trays) (c .shrink .ensures .heads) in
     record {
       takes = record { answer = ap Some (sym (c .index-self-place .is)) ∙ t .0; left = t .1; limits = (c .shrink .ensures .limit, same-product (c .shrink .ensures .trays) (c .shrink .ensures .limit)) };
       moves = record { table = refl; heads = c .shrink .ensures .heads };
-      lent = refl
+      lent = refl;
     }

@@ -11,5 +11,5 @@ bound γ κ M laws copy lives message dict R 𝓤 H 𝓜 𝓖 𝓡 met =
       «few_trays» = λ b. row-few (now (b .cells)) (b .rows .limit) (b .rows .trays) (b .rows .heads) (b .rows .few);
       «each_tray_within_its_limit» = λ b. row-each-within (now (b .cells)) (b .rows .limit) (b .rows .trays) (b .rows .heads) (b .rows .within);
       «all_within_the_total» = λ b. row-within (now (b .cells)) (b .rows .limit) (b .rows .trays) (b .rows .heads) (b .rows .within);
-      Self·Item·lives = search inside
+      Self·Item·lives = search inside;
     }

@@ -1,0 +1,3 @@
+mod ChainLaws
+mod Moves
+mod Steps

@@ -1,0 +1,2 @@
+pub mod ChainBanks
+pub mod Chains
