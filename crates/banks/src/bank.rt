@@ -24,7 +24,7 @@ pub trait Trays {
     // all trays together hold no more than this
     ghost total_limit: { Self → ℕ };
 
-    // in a bank that has a tray, both limits are at least one
+    // where there is a tray, neither limit is 0
     law limits_leave_room: { (b : Self) → 0 < length (trays b) → (0 < «tray_limit» b) × (0 < «total_limit» b) };
 
     law few_trays: { (b : Self) → length (trays b) ≤ 128 };

@@ -52,7 +52,7 @@ pub struct Links {
 
 impl Links {
     // Every place in the chain of the free ones.
-    pub fn new(size: usize) -> Links
+    pub(crate) fn new(size: usize) -> Links
         requires { ⌜ size ≤ 1024 ⌝ }
         ensures size { λ r. ⌜ r .size ≡ size ⌝ }
         ensures heads { λ r. ⌜ r .heads ≡ all-free size ⌝ }
@@ -63,7 +63,7 @@ impl Links {
     }
 
     // Takes the first place out of a chain.
-    pub fn pop(&mut self, chain: usize) -> usize
+    pub(crate) fn pop(&mut self, chain: usize) -> usize
         requires { ⌜ chain < 129 ⌝ }
         requires { ⌜ 0 < link-at (now self .heads) chain .count ⌝ }
         ensures first { λ r. ⌜ r ≡ link-at (now (self .entry) .heads) chain .first ⌝ }
@@ -85,7 +85,7 @@ impl Links {
     }
 
     // Puts a place at the end of a chain that has one.
-    pub fn push_on(&mut self, chain: usize, free: usize)
+    pub(crate) fn push_on(&mut self, chain: usize, free: usize)
         requires { ⌜ chain < 129 ⌝ ∗ ⌜ free < now self .size ⌝ ∗ ⌜ Free (now self .heads) (now self .next) free ⌝ ∗ ⌜ counted (now self .heads) < now self .size ⌝ }
         requires { ⌜ 0 < link-at (now self .heads) chain .count ⌝ }
         ensures grown { λ r. ⌜ Grown (now (self .entry) .heads) (now (self .entry) .next) (now (self .exit) .heads) (now (self .exit) .next) chain free ⌝ }
@@ -103,7 +103,7 @@ impl Links {
     }
 
     // Puts a place into a chain that has none.
-    pub fn push_first(&mut self, chain: usize, free: usize)
+    pub(crate) fn push_first(&mut self, chain: usize, free: usize)
         requires { ⌜ chain < 129 ⌝ ∗ ⌜ free < now self .size ⌝ ∗ ⌜ Free (now self .heads) (now self .next) free ⌝ ∗ ⌜ counted (now self .heads) < now self .size ⌝ }
         requires { ⌜ link-at (now self .heads) chain .count ≡ 0 ⌝ }
         ensures grown { λ r. ⌜ Grown (now (self .entry) .heads) (now (self .entry) .next) (now (self .exit) .heads) (now (self .exit) .next) chain free ⌝ }
@@ -119,7 +119,7 @@ impl Links {
     }
 
     // Puts a place at the end of a chain.
-    pub fn push(&mut self, chain: usize, free: usize)
+    pub(crate) fn push(&mut self, chain: usize, free: usize)
         requires { ⌜ chain < 129 ⌝ ∗ ⌜ free < now self .size ⌝ ∗ ⌜ Free (now self .heads) (now self .next) free ⌝ ∗ ⌜ counted (now self .heads) < now self .size ⌝ }
         ensures size { λ r. ⌜ now (self .exit) .size ≡ now (self .entry) .size ⌝ }
         ensures grown { λ r. ⌜ Grown (now (self .entry) .heads) (now (self .entry) .next) (now (self .exit) .heads) (now (self .exit) .next) chain free ⌝ }
@@ -133,7 +133,7 @@ impl Links {
     }
 
     // Takes the first place out of one chain, and puts it at the end of another.
-    pub fn shift(&mut self, from: usize, to: usize) -> usize
+    pub(crate) fn shift(&mut self, from: usize, to: usize) -> usize
         requires { ⌜ from < 129 ⌝ ∗ ⌜ to < 129 ⌝ ∗ ⌜ 0 < link-at (now self .heads) from .count ⌝ }
         ensures first { λ r. ⌜ r ≡ link-at (now (self .entry) .heads) from .first ⌝ }
         ensures inside { λ r. ⌜ r < now (self .entry) .size ⌝ }
@@ -147,21 +147,21 @@ impl Links {
         place
     }
 
-    pub fn count(&self, chain: usize) -> usize
+    pub(crate) fn count(&self, chain: usize) -> usize
         requires { ⌜ chain < 129 ⌝ }
         ensures { λ r. ⌜ r ≡ link-at (now (self .entry) .heads) chain .count ⌝ }
     {
         self.heads[chain].count as usize
     }
 
-    pub fn first(&self, chain: usize) -> usize
+    pub(crate) fn first(&self, chain: usize) -> usize
         requires { ⌜ chain < 129 ⌝ }
         ensures { λ r. ⌜ r ≡ link-at (now (self .entry) .heads) chain .first ⌝ }
     {
         self.heads[chain].first as usize
     }
 
-    pub fn size(&self) -> usize
+    pub(crate) fn size(&self) -> usize
         ensures { λ r. ⌜ r ≡ now (self .entry) .size ⌝ }
     {
         self.size

@@ -33,6 +33,16 @@ pub struct Note {
     pub payload: u32,
 }
 
+impl Note {
+    // What a cell holds that holds no entry yet.
+    pub const BLANK: Note = Note {
+        pad: 0,
+        kind: NoteKind::PageKey,
+        interval: 0,
+        payload: 0,
+    };
+}
+
 pub impl Message for Note as NoteMessage {
     ghost pad = { λ n. n .pad };
 

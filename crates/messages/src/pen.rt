@@ -45,6 +45,17 @@ pub struct PenMessage {
     pub force: u16,
 }
 
+impl PenMessage {
+    // What a cell holds that holds no entry yet.
+    pub const BLANK: PenMessage = PenMessage {
+        pad: 0,
+        stage: Stage::Down,
+        x: 0,
+        y: 0,
+        force: 0,
+    };
+}
+
 pub impl Message for PenMessage as PenMessageMessage {
     ghost pad = { λ m. m .pad };
 

@@ -5,12 +5,12 @@ ghost use lib.ListN.{length, set, take, replicate};
 ghost use Rattle.rows.specs.Rings.{no-head, head-at, counted, row-limit, row-number};
 use crate::head::Head;
 
-pub const MAX_TRAYS: usize = 128;
+const MAX_TRAYS: usize = 128;
 
-pub const MAX_CELLS: usize = 1024;
+const MAX_CELLS: usize = 1024;
 
 // How many cells each tray has, of so many trays over a table of `len` cells: 0 where there can be no tray.
-pub fn limit_of(len: usize, trays: usize) -> usize
+fn limit_of(len: usize, trays: usize) -> usize
     ensures value { λ r. ⌜ r ≡ row-limit len trays ⌝ }
     ensures fits { λ r. ⌜ (0 < r → (0 < trays) × (trays ≤ 128) × (r ≤ 1024) × (trays * r ≤ len)) ⌝ }
 {
@@ -33,7 +33,7 @@ pub struct Rows {
 }
 
 impl Rows {
-    pub fn new(trays: usize, limit: usize) -> Rows
+    pub(crate) fn new(trays: usize, limit: usize) -> Rows
         requires { ⌜ trays ≤ 128 ⌝ ∗ ⌜ limit ≤ 1024 ⌝ ∗ ⌜ (0 < trays → 0 < limit) ⌝ }
         ensures trays { λ r. ⌜ r .trays ≡ trays ⌝ }
         ensures limit { λ r. ⌜ r .limit ≡ limit ⌝ }
@@ -47,7 +47,7 @@ impl Rows {
     }
 
     // Over a table of `len` cells: empty, and with no tray where there can be none.
-    pub fn over(len: usize, trays: usize) -> Rows
+    pub(crate) fn over(len: usize, trays: usize) -> Rows
         ensures trays { λ r. ⌜ r .trays ≡ row-number len trays ⌝ }
         ensures limit { λ r. ⌜ r .limit ≡ row-limit len trays ⌝ }
         ensures heads { λ r. ⌜ r .heads ≡ replicate 128 no-head ⌝ }
@@ -60,26 +60,26 @@ impl Rows {
         Rows::new(trays, limit)
     }
 
-    pub fn trays(&self) -> usize
+    pub(crate) fn trays(&self) -> usize
         ensures { λ r. ⌜ r ≡ now (self .entry) .trays ⌝ }
     {
         self.trays
     }
 
-    pub fn limit(&self) -> usize
+    pub(crate) fn limit(&self) -> usize
         ensures { λ r. ⌜ r ≡ now (self .entry) .limit ⌝ }
     {
         self.limit
     }
 
-    pub fn count(&self, tray: usize) -> usize
+    pub(crate) fn count(&self, tray: usize) -> usize
         requires { ⌜ tray < 128 ⌝ }
         ensures { λ r. ⌜ r ≡ head-at (now (self .entry) .heads) tray .count ⌝ }
     {
         self.heads[tray].count as usize
     }
 
-    pub fn total(&self) -> usize
+    pub(crate) fn total(&self) -> usize
         ensures { λ r. ⌜ r ≡ counted (take (now (self .entry) .trays) (now (self .entry) .heads)) ⌝ }
     {
         let mut sum = 0;
@@ -90,7 +90,7 @@ impl Rows {
     }
 
     // The place of the first cell of a tray.
-    pub fn start(&self, tray: usize) -> usize
+    pub(crate) fn start(&self, tray: usize) -> usize
         requires { ⌜ tray < now self .trays ⌝ }
         ensures place { λ r. ⌜ r ≡ tray * now (self .entry) .limit + head-at (now (self .entry) .heads) tray .first % now (self .entry) .limit ⌝ }
         ensures inside { λ r. ⌜ r < now (self .entry) .trays * now (self .entry) .limit ⌝ }
@@ -99,7 +99,7 @@ impl Rows {
     }
 
     // The place after the last cell of a tray that is not full: no entry of any tray lies there.
-    pub fn end(&self, tray: usize) -> usize
+    pub(crate) fn end(&self, tray: usize) -> usize
         requires { ⌜ tray < now self .trays ⌝ }
         requires { ⌜ head-at (now self .heads) tray .count < now self .limit ⌝ }
         ensures place { λ r. ⌜ r ≡ tray * now (self .entry) .limit + (head-at (now (self .entry) .heads) tray .first + head-at (now (self .entry) .heads) tray .count) % now (self .entry) .limit ⌝ }
@@ -110,7 +110,7 @@ impl Rows {
         tray * self.limit + (head.first as usize + head.count as usize) % self.limit
     }
 
-    pub fn grow(&mut self, tray: usize)
+    pub(crate) fn grow(&mut self, tray: usize)
         requires { ⌜ tray < now self .trays ⌝ }
         requires { ⌜ head-at (now self .heads) tray .count < now self .limit ⌝ }
         ensures trays { λ _. ⌜ now (self .exit) .trays ≡ now (self .entry) .trays ⌝ }
@@ -120,7 +120,7 @@ impl Rows {
         self.heads[tray].count += 1;
     }
 
-    pub fn shrink(&mut self, tray: usize)
+    pub(crate) fn shrink(&mut self, tray: usize)
         requires { ⌜ tray < now self .trays ⌝ }
         requires { ⌜ 0 < head-at (now self .heads) tray .count ⌝ }
         ensures trays { λ _. ⌜ now (self .exit) .trays ≡ now (self .entry) .trays ⌝ }
