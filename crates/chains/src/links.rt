@@ -36,6 +36,8 @@ fn one_chain(size: usize) -> [Link; 129]
     heads
 }
 
+// The chains, and for each of the `size` places the next one in its chain. The ghost fields say what holds of every such
+// value: each entry of a chain lies at a place of its own below `size`, and each chain knows its last.
 #[derive(Clone, Copy)]
 pub struct Links {
     heads: [Link; 129],

@@ -20,6 +20,8 @@ fn limit_of(len: usize, trays: usize) -> usize
     len.min(MAX_CELLS) / trays
 }
 
+// The heads of the trays, of which the first `trays` are used, and how many cells a tray may hold. The ghost fields say
+// what holds of every such value: few trays, a limit that leaves room, and no count above it.
 #[derive(Clone, Copy)]
 pub struct Rows {
     heads: [Head; 128],
@@ -110,6 +112,7 @@ impl Rows {
         tray * self.limit + (head.first as usize + head.count as usize) % self.limit
     }
 
+    // One cell more at the end of a tray that has room.
     pub(crate) fn grow(&mut self, tray: usize)
         requires { ⌜ tray < now self .trays ⌝ }
         requires { ⌜ head-at (now self .heads) tray .count < now self .limit ⌝ }
@@ -120,6 +123,7 @@ impl Rows {
         self.heads[tray].count += 1;
     }
 
+    // The first cell of a tray that has one leaves it.
     pub(crate) fn shrink(&mut self, tray: usize)
         requires { ⌜ tray < now self .trays ⌝ }
         requires { ⌜ 0 < head-at (now self .heads) tray .count ⌝ }

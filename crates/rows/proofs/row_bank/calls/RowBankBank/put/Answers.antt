@@ -57,6 +57,7 @@ returns g c =
       };
       fills = λ _. record {
         table = ap (λ i. set (b .cells .now) i (record { receipt = c .args .receipt; message = c .args .message })) (c .end-place .ensures .place);
+        free = λ j i l e. c .end-place .ensures .free j i l (c .end-place .ensures .place ∙ e);
         heads = c .grow .ensures .heads;
       };
       lent = refl;
