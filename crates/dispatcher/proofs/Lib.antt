@@ -1,0 +1,13 @@
+pub mod Counts
+pub mod Places
+pub mod Moves
+pub mod Facts
+pub mod Sound
+pub mod Lost
+pub mod Orders
+pub mod Soonest
+pub mod Whole
+pub mod Warnings
+pub mod Warned
+pub mod Once
+pub mod Calls
