@@ -1,13 +1,23 @@
-pub mod Counts
-pub mod Places
-pub mod Moves
-pub mod Facts
-pub mod Sound
-pub mod Lost
-pub mod Orders
-pub mod Soonest
-pub mod Whole
-pub mod Warnings
-pub mod Warned
-pub mod Once
-pub mod Calls
+mod Calling
+mod Calls
+mod Counts
+mod Dispatching
+mod Facts
+mod Foreseeing
+mod Keeps
+mod Lost
+mod Moves
+mod Once
+mod Orders
+mod Places
+mod Placing
+mod Putting
+mod Queues
+mod Rings
+mod SameBank
+mod Soonest
+mod Sound
+mod Turning
+mod Warned
+mod Warnings
+mod Whole

@@ -8,6 +8,13 @@ pub struct Entry<M> {
     pub deadline: u32,
 }
 
+// What an accepted post is answered: its receipt and its deadline cycle.
+#[derive(Clone, Copy)]
+pub struct Slip {
+    pub receipt: u32,
+    pub deadline: u32,
+}
+
 // What a warning names: within so many cycles, so many entries are due, which is more than can be served.
 #[derive(Clone, Copy)]
 pub struct Warning {
