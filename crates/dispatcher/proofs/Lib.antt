@@ -6,6 +6,7 @@ mod Facts
 mod Foreseeing
 mod Keeps
 mod Lost
+mod Lying
 mod Moves
 mod Once
 mod Orders
@@ -13,6 +14,7 @@ mod Places
 mod Placing
 mod Putting
 mod Queues
+mod RealRuns
 mod Rings
 mod SameBank
 mod Soonest

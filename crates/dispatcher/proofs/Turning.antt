@@ -122,3 +122,24 @@ module _ {M : Type 0} (b : Terms M) (v : View M) (m : State M) (s : Shows b v m)
             ∙ (λ i. Asked (record { cycle = v .cycle; accepted = v .accepted; dispatched = v .dispatched; late = v .late; pending = ip i; waiting = iw i })),
         s,
       )
+
+  pub begins : v .begun ≡ false → (step b m Begin .0 ≡ Begun) × Shows b (record { interval = v .interval; trays = v .trays; tray-limit = v .tray-limit; total-limit = v .total-limit; is-open = v .is-open; begun = true; span = v .span; cycle = v .cycle; next = v .next; accepted = v .accepted; dispatched = v .dispatched; late = v .late }) (step b m Begin .1)
+  begins e =
+      let a = s .agrees in
+      accept b v m Begin s _ Begun (skip (not (v .is-open)) Shut _ (ap not o) ∙ skip (v .begun) OutOfPhase None e) (
+        refl,
+        record {
+          numbers = refl;
+          agrees = record {
+            interval = a .interval;
+            tray-limit = a .tray-limit;
+            total-limit = a .total-limit;
+            span = a .span;
+            few = a .few;
+            booked = a .booked;
+            given = a .given;
+            shut = λ j. absurd (true≢false (sym o ∙ j));
+            running = λ _. a .running o;
+          };
+        },
+      )

@@ -6,3 +6,4 @@ pub mod Shown
 pub mod Steps
 pub mod Theorems
 pub mod Views
+pub mod WholeRuns

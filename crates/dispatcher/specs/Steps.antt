@@ -12,7 +12,6 @@ use Rattle.banks.specs.declared.cell.Cell.{Cell}
 use Rattle.banks.specs.Trays.{held-in}
 use Rattle.messages.specs.declared.refusal.Refusal.{Refusal}
 use Rattle.dispatcher.specs.declared.dispatcher.Dispatcher.{Dispatcher}
-use Rattle.dispatcher.specs.declared.entry.Slip.{Slip}
 use Rattle.dispatcher.specs.Machine.{Call, Entry, Event, State, Terms, Warning, first-over, start, step}
 use Rattle.dispatcher.specs.Shown.{Shows}
 use Rattle.dispatcher.specs.Views.{View, view}
@@ -20,10 +19,6 @@ use Rattle.dispatcher.specs.Views.{View, view}
 abbrev pub Fails : {X : Type 0} → Result X Refusal → Type 0
 Fails (Ok x) = ⊥
 Fails (Err k) = Unit {0}
-
--- the entry of an accepted post
-abbrev pub entered : {M : Type 0} → Slip → M → Entry M
-entered p x = record { receipt = p .receipt; message = x; deadline = p .deadline }
 
 -- from v to w, as the machine goes by the call c with this event
 abbrev pub Simulates : {M : Type 0} → View M → View M → Call M → Event M → Type 0

@@ -2,10 +2,10 @@
 ghost use mathlib.Core.Path.{_≡_};
 ghost use Prim.Native.Nat.{_≤_};
 ghost use Rattle.dispatcher.specs.Search.{First-held};
-ghost use Rattle.dispatcher.specs.Steps.{Fails, Foresees, Starts, Steps, entered};
+ghost use Rattle.dispatcher.specs.Steps.{Fails, Foresees, Starts, Steps};
 ghost use Rattle.dispatcher.specs.declared.call.Call.the-variants.{Ask, Begin, Dispatch, Name, Open, Post, Turn, Warn};
 ghost use Rattle.dispatcher.specs.declared.event.Event.the-variants.{Asked, Begun, Dispatched, Named, Opened, Posted, Turned, Warned};
-ghost use Rattle.dispatcher.specs.Answers.{answered};
+ghost use Rattle.dispatcher.specs.Answers.{answered, entered};
 use crate::dispatcher::Dispatcher;
 use crate::entry::Entry;
 use crate::entry::Figures;
@@ -79,10 +79,8 @@ where
         }
         let receipt = self.receipt;
         let deadline = self.cycle + interval as u32;
-        match self
-            .bank
-            .put(deadline as usize % (self.span + 1), receipt, message)
-        {
+        match self.bank
+            .put(deadline as usize % (self.span + 1), receipt, message) {
             Ok(()) => {
                 self.receipt = receipt + 1;
                 self.accepted = self.accepted.saturating_add(1);
@@ -97,8 +95,7 @@ where
         ensures { λ r. ⌜ First-held (B·Trays .trays (now (self .entry) .bank)) (now (self .entry) .span) (now (self .entry) .cycle) r ⌝ }
     {
         for ahead in 1..self.span + 1 {
-            if self
-                .bank
+            if self.bank
                 .count((self.cycle as usize + ahead) % (self.span + 1))
                 > 0
             {
@@ -206,5 +203,47 @@ where
             return Err(Refusal::TooManyServices);
         }
         Ok(self.foresee(services as usize))
+    }
+
+    // Begins a cycle. It is kept that this was done, and nothing else changes.
+    pub fn begin(&mut self) -> Result<(), Refusal>
+        ensures steps { λ r. ⌜ Steps (B·Trays .trays) (B·Trays .«tray_limit») (B·Trays .«total_limit») (Item·Timed .interval) (now (self .entry)) (now (self .exit)) Begin (answered Begin (λ _. Begun) r) ⌝ }
+        ensures same { λ r. ⌜ (Fails r → now (self .exit) ≡ now (self .entry)) ⌝ }
+    {
+        if !self.open {
+            return Err(Refusal::Shut);
+        }
+        if self.begun {
+            return Err(Refusal::OutOfPhase);
+        }
+        self.begun = true;
+        Ok(())
+    }
+
+    // How things stand. Nothing changes.
+    pub fn ask(&mut self) -> Figures
+        ensures steps { λ r. ⌜ Steps (B·Trays .trays) (B·Trays .«tray_limit») (B·Trays .«total_limit») (Item·Timed .interval) (now (self .entry)) (now (self .exit)) Ask (Asked r) ⌝ }
+        ensures same { λ _. ⌜ now (self .exit) ≡ now (self .entry) ⌝ }
+    {
+        if !self.open {
+            return Figures {
+                cycle: self.cycle,
+                accepted: self.accepted,
+                dispatched: self.dispatched,
+                late: self.late,
+                pending: 0,
+                waiting: 0,
+            };
+        }
+        Figures {
+            cycle: self.cycle,
+            accepted: self.accepted,
+            dispatched: self.dispatched,
+            late: self.late,
+            pending: self.accepted
+                .saturating_sub(self.dispatched)
+                .saturating_sub(self.late),
+            waiting: self.bank.count(self.cycle as usize % (self.span + 1)),
+        }
     }
 }
