@@ -1,21 +1,24 @@
 -- From the laws of the machine to those of the dispatcher that shows it.
 use mathlib.Core.Path.{_≡_, refl, sym, ap, subst, _∙_}
-use mathlib.Core.Logic.{⊎-elim}
+use mathlib.Core.Logic.{inl, inr, ⊎-elim}
 use mathlib.Core.List.{List, [], _∷_, _++_, map}
 use mathlib.Core.Bool.{Bool, true, false}
-use Prim.Native.Nat.{ℕ, _+_}
+use Prim.Native.Nat.{ℕ, _+_, _<_, _≤_}
+use lib.ListN.{length}
 use native.Mathlib.Omega.{arith}
 use Rattle.std.specs.Finite.{nth}
 use Rattle.std.specs.declared.option.Option.the-variants.{Some}
 use Rattle.std.proofs.shelf.Sums.{folded-push}
-use Rattle.std.proofs.shelf.Tests.{cases-bool}
+use Rattle.std.proofs.shelf.Lists.{length-map, length-push, take-all, take-append-le}
+use Rattle.std.proofs.shelf.Tests.{cases-bool, cases-lt}
+use Rattle.banks.specs.declared.cell.Cell.{Cell}
 use Rattle.dispatcher.specs.declared.event.Event.the-variants.{Posted}
 use Rattle.dispatcher.specs.History.{History, dispatches, lying, namings}
 use Rattle.dispatcher.specs.Machine.{Call, Entry, Event, State, Terms, Told, call-of, run, start, step, told}
 use Rattle.dispatcher.specs.Shown.{Shows}
 use Rattle.dispatcher.specs.Steps.{Simulates}
 use Rattle.dispatcher.specs.Views.{View}
-use Rattle.dispatcher.specs.WholeRuns.{Obeys, lying-in}
+use Rattle.dispatcher.specs.WholeRuns.{Obeyed, Obeys, lying-in}
 use Rattle.dispatcher.proofs.Calls.{is-of-calls}
 use Rattle.dispatcher.proofs.Lying.{trays-lying}
 use Rattle.dispatcher.proofs.Once.{each-once}
@@ -74,3 +77,43 @@ module _ {M : Type 0} (b : Terms M) where
 
   pub follows-calls : (v : View M) (calls : List (Call M)) (h : History M) → Follows b v calls h → map call-of h ≡ calls
   follows-calls v calls h f = ap (map call-of) (sym (f .answered)) ∙ is-of-calls b calls .same-calls
+
+-- every call so far left a dispatcher that obeyed
+abbrev pub Obeyed-to : {M : Type 0} → History M → Type 0
+Obeyed-to h = (k : ℕ) → k ≤ length h → Obeyed h k
+
+module _ {M : Type 0} where
+  now-obeyed : (h : History M) (late : ℕ) (ts : List (List (Cell M))) (k : ℕ) → length h ≤ k → Obeys h late ts → Obeyed h k
+  now-obeyed h late ts k l o =
+      record { late = late; trays = ts; law = subst (λ x. Obeys x late ts) (sym (take-all k h l)) o }
+
+  pub obeyed-none : (late : ℕ) (ts : List (List (Cell M))) → Obeys [] late ts → Obeyed-to {M = M} []
+  obeyed-none late ts o k l = now-obeyed [] late ts k (omega arith) o
+
+  pub obeyed-more : (h : History M) (a : Event M) (late : ℕ) (ts : List (List (Cell M))) → Obeyed-to h → Obeys (h ++ a ∷ []) late ts → Obeyed-to (h ++ a ∷ [])
+  obeyed-more h a late ts old o k l =
+      ⊎-elim
+      (λ (less : k ≤ length h).
+        let x = old k less in
+        record { late = x .late; trays = x .trays; law = subst (λ y. Obeys y (x .late) (x .trays)) (sym (take-append-le k h (a ∷ []) less)) (x .law) })
+      (λ (more : length h < k). let n = length-push h a in now-obeyed (h ++ a ∷ []) late ts k (omega arith) o)
+      (⊎-elim (λ (x : length h < k). inr x) (λ (x : k ≤ length h). inl x) (cases-lt (length h) k))
+
+-- both at once
+pub record Both {M : Type 0} (b : Terms M) (v : View M) (calls : List (Call M)) (h : History M) : Type 0 where
+  pub follows : Follows b v calls h
+  pub obeyed : Obeyed-to h
+
+module _ {M : Type 0} (b : Terms M) where
+  pub both-none : (v : View M) (h : History M) → Shows b v start → h ≡ [] → Both b v [] h
+  both-none v h s e =
+      let f : Follows b v [] [] = record { answered = refl; shows = s } in
+      subst (Both b v []) (sym e) (record { follows = f; obeyed = obeyed-none (v .late) (v .trays) (follows-obeys b v [] [] f) })
+
+  pub both-more : (v w : View M) (cs : List (Call M)) (h : History M) (c : Call M) (a : Event M) → Both b v cs h → Simulates v w c a → Both b w (cs ++ c ∷ []) (h ++ a ∷ [])
+  both-more v w cs h c a x k =
+      let f = follows-more b v w cs h c a (x .follows) k in
+      record { follows = f; obeyed = obeyed-more h a (w .late) (w .trays) (x .obeyed) (follows-obeys b w (cs ++ c ∷ []) (h ++ a ∷ []) f) }
+
+  pub both-length : (v : View M) (cs : List (Call M)) (h : History M) → Both b v cs h → length h ≡ length cs
+  both-length v cs h x = sym (length-map h call-of) ∙ ap length (follows-calls b v cs h (x .follows))

@@ -35,8 +35,16 @@ pub record Obeys {M : Type 0} (h : History M) (late : ℕ) (trays : List (List (
   pub dispatched-in-time : (q : ℕ) (f : Entry M) → nth h q ≡ Some (Dispatched (Some f)) → Dispatched-in-time h q f
   pub named-after-turn : (q : ℕ) (f : Entry M) → nth h q ≡ Some (Named (Some f)) → Named-after-turn h q f
 
+-- what a dispatcher had after its first k calls: a late count and trays with which all that had happened obeys
+pub record Obeyed {M : Type 0} (h : History M) (k : ℕ) : Type 0 where
+  pub late : ℕ
+  pub trays : List (List (Cell M))
+  pub law : Obeys (take k h) late trays
+
 module _ {B M : Type 0} (trays : B → List (List (Cell M))) where
-  -- these calls, made on a new dispatcher, left the dispatcher d and happened as h says
+  -- these calls, made on a new dispatcher, left the dispatcher d and happened as h says: at the start, after each call, and
+  -- at the end, with the late count and the trays that d has
   pub record Whole-run (d : Dispatcher B M) (calls : List (Call M)) (h : History M) : Type 0 where
     pub of-calls : map call-of h ≡ calls
+    pub after-each : (k : ℕ) → k ≤ length calls → Obeyed h k
     pub law : Obeys h (d .late) (trays (d .bank))
