@@ -18,23 +18,18 @@ use Rattle.dispatcher.specs.Machine.{Call, Entry, Event, State, Terms, Told, c
 use Rattle.dispatcher.specs.Shown.{Shows}
 use Rattle.dispatcher.specs.Steps.{Simulates}
 use Rattle.dispatcher.specs.Views.{View}
-use Rattle.dispatcher.specs.WholeRuns.{Obeyed, Obeys, lying-in}
+use Rattle.dispatcher.specs.WholeRuns.{Carries-on, Led, Obeyed, Obeys, lying-in}
 use Rattle.dispatcher.proofs.Calls.{is-of-calls}
 use Rattle.dispatcher.proofs.Lying.{trays-lying}
 use Rattle.dispatcher.proofs.Once.{each-once}
 use Rattle.dispatcher.proofs.Warned.{warnings-right}
 use Rattle.dispatcher.proofs.Whole.{known, late-is-least}
 
--- the calls so far happened as the machine has them, and the dispatcher shows where the machine is
-pub record Follows {M : Type 0} (b : Terms M) (v : View M) (calls : List (Call M)) (h : History M) : Type 0 where
-  pub answered : run b calls .history ≡ h
-  pub shows : Shows b v (run b calls .state)
-
 module _ {M : Type 0} (b : Terms M) where
   run-push : (cs : List (Call M)) (c : Call M) → run b (cs ++ c ∷ []) ≡ told (run b cs) (step b (run b cs .state) c)
   run-push cs c = folded-push (λ r c. told r (step b (r .state) c)) (record { state = start; history = [] }) cs c
 
-  pub follows-more : (v w : View M) (cs : List (Call M)) (h : History M) (c : Call M) (a : Event M) → Follows b v cs h → Simulates v w c a → Follows b w (cs ++ c ∷ []) (h ++ a ∷ [])
+  pub follows-more : (v w : View M) (cs : List (Call M)) (h : History M) (c : Call M) (a : Event M) → Led b v cs h → Simulates v w c a → Led b w (cs ++ c ∷ []) (h ++ a ∷ [])
   follows-more v w cs h c a f k =
       let s = k b (run b cs .state) (f .shows) in
       record {
@@ -72,10 +67,10 @@ module _ {M : Type 0} (b : Terms M) where
         named-after-turn = e .named-after-turn;
       }
 
-  pub follows-obeys : (v : View M) (calls : List (Call M)) (h : History M) → Follows b v calls h → Obeys h (v .late) (v .trays)
+  pub follows-obeys : (v : View M) (calls : List (Call M)) (h : History M) → Led b v calls h → Obeys h (v .late) (v .trays)
   follows-obeys v calls h f = subst (λ x. Obeys x (v .late) (v .trays)) (f .answered) (obeys v calls (f .shows))
 
-  pub follows-calls : (v : View M) (calls : List (Call M)) (h : History M) → Follows b v calls h → map call-of h ≡ calls
+  pub follows-calls : (v : View M) (calls : List (Call M)) (h : History M) → Led b v calls h → map call-of h ≡ calls
   follows-calls v calls h f = ap (map call-of) (sym (f .answered)) ∙ is-of-calls b calls .same-calls
 
 -- every call so far left a dispatcher that obeyed
@@ -94,20 +89,20 @@ module _ {M : Type 0} where
   obeyed-more h a late ts old o k l =
       ⊎-elim
       (λ (less : k ≤ length h).
-        let x = old k less in
-        record { late = x .late; trays = x .trays; law = subst (λ y. Obeys y (x .late) (x .trays)) (sym (take-append-le k h (a ∷ []) less)) (x .law) })
+      let x = old k less in
+      record { late = x .late; trays = x .trays; law = subst (λ y. Obeys y (x .late) (x .trays)) (sym (take-append-le k h (a ∷ []) less)) (x .law) })
       (λ (more : length h < k). let n = length-push h a in now-obeyed (h ++ a ∷ []) late ts k (omega arith) o)
       (⊎-elim (λ (x : length h < k). inr x) (λ (x : k ≤ length h). inl x) (cases-lt (length h) k))
 
 -- both at once
 pub record Both {M : Type 0} (b : Terms M) (v : View M) (calls : List (Call M)) (h : History M) : Type 0 where
-  pub follows : Follows b v calls h
+  pub follows : Led b v calls h
   pub obeyed : Obeyed-to h
 
 module _ {M : Type 0} (b : Terms M) where
   pub both-none : (v : View M) (h : History M) → Shows b v start → h ≡ [] → Both b v [] h
   both-none v h s e =
-      let f : Follows b v [] [] = record { answered = refl; shows = s } in
+      let f : Led b v [] [] = record { answered = refl; shows = s } in
       subst (Both b v []) (sym e) (record { follows = f; obeyed = obeyed-none (v .late) (v .trays) (follows-obeys b v [] [] f) })
 
   pub both-more : (v w : View M) (cs : List (Call M)) (h : History M) (c : Call M) (a : Event M) → Both b v cs h → Simulates v w c a → Both b w (cs ++ c ∷ []) (h ++ a ∷ [])
@@ -117,3 +112,8 @@ module _ {M : Type 0} (b : Terms M) where
 
   pub both-length : (v : View M) (cs : List (Call M)) (h : History M) → Both b v cs h → length h ≡ length cs
   both-length v cs h x = sym (length-map h call-of) ∙ ap length (follows-calls b v cs h (x .follows))
+
+-- what goes as the machine goes carries the law on
+pub carries-on : {M : Type 0} (v w : View M) (c : Call M) (a : Event M) → Simulates v w c a → Carries-on v w c a
+carries-on v w c a k b cs h f =
+    let g = follows-more b v w cs h c a f k in (g, follows-obeys b w (cs ++ c ∷ []) (h ++ a ∷ []) g)

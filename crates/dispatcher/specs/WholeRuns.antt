@@ -1,6 +1,6 @@
 -- The law of whole runs, of a dispatcher as it is: its late count, and the trays of its bank.
 use mathlib.Core.Path.{_≡_}
-use mathlib.Core.List.{List, [], _∷_, map}
+use mathlib.Core.List.{List, [], _∷_, _++_, map}
 use Prim.Native.Nat.{ℕ, _+_, _≤_}
 use lib.Dec.{eqb}
 use lib.ListN.{length, take}
@@ -12,7 +12,9 @@ use Rattle.banks.specs.declared.cell.Cell.{Cell}
 use Rattle.dispatcher.specs.declared.dispatcher.Dispatcher.{Dispatcher}
 use Rattle.dispatcher.specs.declared.event.Event.the-variants.{Dispatched, Named, Posted}
 use Rattle.dispatcher.specs.History.{Dispatched-in-time, History, Named-after-turn, Service-order, dispatches, late-posts, namings, own}
-use Rattle.dispatcher.specs.Machine.{Call, Entry, call-of}
+use Rattle.dispatcher.specs.Machine.{Call, Entry, Event, Terms, call-of, run}
+use Rattle.dispatcher.specs.Shown.{Shows}
+use Rattle.dispatcher.specs.Views.{View, view}
 use Rattle.dispatcher.specs.Theorems.{Warnings-right}
 
 -- how often the receipt r stands in trays
@@ -35,6 +37,16 @@ pub record Obeys {M : Type 0} (h : History M) (late : ℕ) (trays : List (List (
   pub dispatched-in-time : (q : ℕ) (f : Entry M) → nth h q ≡ Some (Dispatched (Some f)) → Dispatched-in-time h q f
   pub named-after-turn : (q : ℕ) (f : Entry M) → nth h q ≡ Some (Named (Some f)) → Named-after-turn h q f
 
+-- these calls led a new dispatcher, made with the terms b, to what v shows of it, and happened as h says
+pub record Led {M : Type 0} (b : Terms M) (v : View M) (calls : List (Call M)) (h : History M) : Type 0 where
+  pub answered : run b calls .history ≡ h
+  pub shows : Shows b v (run b calls .state)
+
+-- one call more: whatever calls led to v, with this call they lead to w, and all that has happened obeys
+abbrev pub Carries-on : {M : Type 0} → View M → View M → Call M → Event M → Type 0
+Carries-on {M} v w c a =
+    (b : Terms M) (calls : List (Call M)) (h : History M) → Led b v calls h → Led b w (calls ++ c ∷ []) (h ++ a ∷ []) × Obeys (h ++ a ∷ []) (w .late) (w .trays)
+
 -- what a dispatcher had after its first k calls: a late count and trays with which all that had happened obeys
 pub record Obeyed {M : Type 0} (h : History M) (k : ℕ) : Type 0 where
   pub late : ℕ
@@ -48,3 +60,8 @@ module _ {B M : Type 0} (trays : B → List (List (Cell M))) where
     pub of-calls : map call-of h ≡ calls
     pub after-each : (k : ℕ) → k ≤ length calls → Obeyed h k
     pub law : Obeys h (d .late) (trays (d .bank))
+
+  -- a call of a dispatcher carries the law on
+  abbrev pub Obeys-on : (B → ℕ) → (B → ℕ) → (M → ℕ) → Dispatcher B M → Dispatcher B M → Call M → Event M → Type 0
+  Obeys-on each all interval before after c a =
+      Carries-on (view trays each all interval before) (view trays each all interval after) c a

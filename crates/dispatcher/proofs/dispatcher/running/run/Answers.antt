@@ -30,7 +30,7 @@ loop-call-again g c b s =
     let w : View (g .B·Item .Denot) = view (g .B·Trays .trays) (g .B·Trays .«tray_limit») (g .B·Trays .«total_limit») (g .Item·Timed .interval) (c .perform .last .self) in
     subst (λ cs. Both b w cs (vec-items (c .push .last .self))) (sym more)
     (subst (Both b w (so-far ++ call ∷ [])) (sym (c .in-Continue-push .ensures tt .items))
-    (both-more b v w so-far (vec-items (l .events)) call (c .perform .result) (l .inv b s) (c .perform .ensures)))
+    (both-more b v w so-far (vec-items (l .events)) call (c .perform .result) (l .inv b s) (c .perform .ensures .steps)))
 
 pub returns : need.returns
 returns g c =
@@ -44,5 +44,5 @@ returns g c =
     record {
       of-calls = follows-calls b v calls h (f .follows);
       after-each = λ k less. f .obeyed k (omega arith);
-      law = follows-obeys b v calls h (f .follows)
+      law = follows-obeys b v calls h (f .follows);
     }
