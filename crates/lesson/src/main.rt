@@ -1,4 +1,6 @@
 // The lesson runner: reads a steps file from standard input, runs its steps, and prints the lesson's listing.
+ghost use mathlib.Core.Path.{_≡_};
+ghost use Rattle.lesson.specs.StepCalls.{call-for};
 use banks::bank::Bank;
 use banks::cell::Cell;
 use chains::chain_bank::ChainBank;
@@ -109,7 +111,10 @@ fn read_calls<M: Posted>(
     }
 }
 
-fn call_of<M: Copy>(step: Step<M>) -> Call<M> {
+// The call that a step stands for.
+fn call_of<M: Copy>(step: Step<M>) -> Call<M>
+    ensures { λ r. ⌜ r ≡ call-for step ⌝ }
+{
     match step {
         Step::Post(message) => Call::Post(message),
         Step::Dispatch => Call::Dispatch,
