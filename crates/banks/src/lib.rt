@@ -1,4 +1,6 @@
 // What a bank of trays is: the interface that the dispatcher knows a bank by.
+#![tactic(auto)]
+
 pub mod bank;
 pub mod cell;
 pub mod first_put;

@@ -1,4 +1,6 @@
 // Both banks on examples, through functions that know a bank by its interface alone.
+#![tactic(auto)]
+
 #[cfg(test)]
 mod drills;
 pub mod given_back;

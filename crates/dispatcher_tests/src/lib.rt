@@ -1,4 +1,6 @@
 // The dispatcher on examples: the worked turns as a theorem, and lessons played on both banks.
+#![tactic(auto)]
+
 #[cfg(test)]
 mod lessons;
 #[cfg(test)]

@@ -1,4 +1,6 @@
 // The lesson runner: reads a steps file from standard input, runs its steps, and prints the lesson's listing.
+#![tactic(auto)]
+
 ghost use Rattle.std.specs.Prelude.{◌≡◌};
 ghost use Rattle.lesson.specs.StepCalls.{call_for};
 

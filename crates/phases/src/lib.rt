@@ -1,4 +1,6 @@
 // The phases of a hub's cycle as values, each used up to reach the next, so that no call can be made out of turn.
+#![tactic(auto)]
+
 pub mod drive;
 pub mod phase;
 pub mod refused;

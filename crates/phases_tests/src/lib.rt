@@ -1,4 +1,6 @@
 // The phases of a cycle on examples.
+#![tactic(auto)]
+
 #[cfg(test)]
 mod cycles;
 #[cfg(test)]

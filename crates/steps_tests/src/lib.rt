@@ -1,4 +1,6 @@
 // The reader of steps files on examples: every step, and every way in which a file can stop being lawful.
+#![tactic(auto)]
+
 #[cfg(test)]
 mod headers;
 #[cfg(test)]
