@@ -94,7 +94,7 @@ def foreign_in(text: str, own: list[str]) -> set[str]:
     return names
 
 
-def turn(text: str, names: dict[str, str], keep: set[str], before: str = "") -> str:
+def turn(text: str, names: dict[str, str], keep: set[str], steps: set[str] = frozenset()) -> str:
     out, at = [], 0
     for m in TOKEN.finditer(text):
         token = m.group()
@@ -102,7 +102,7 @@ def turn(text: str, names: dict[str, str], keep: set[str], before: str = "") -> 
         step = False
         if behind.endswith("."):
             head = re.search(r"([^\s(){}\[\];,.:\"]+)\.$", behind)
-            step = bool(head) and head.group(1) in STEPS
+            step = bool(head) and head.group(1) in steps
         out.append(text[at : m.start()])
         out.append(names[token] if token in names and token not in keep and not step else token)
         at = m.end()
@@ -157,10 +157,12 @@ def main() -> None:
                 print("look:", p.relative_to(TOP), t, "and", names[t])
         for t in sorted(tokens & set(names) & keep):
             print("kept:", p.relative_to(TOP), t)
+        # only the proof of a function has steps; a lemma's c is its own variable
+        steps = STEPS if p.name in ("Answers.antt", "Choices.antt", "Invariants.antt", "Proof.antt") else frozenset()
         lines = []
         for line in text.split("\n"):
             code, comment = split_comment(line, mark)
-            lines.append(outside_strings(code, lambda c: turn(c, names, keep)) + quoted(comment, names))
+            lines.append(outside_strings(code, lambda c: turn(c, names, keep, steps)) + quoted(comment, names))
         turned = "\n".join(lines)
         if turned != text:
             changed += 1

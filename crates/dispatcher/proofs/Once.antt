@@ -195,7 +195,7 @@ module _ {M : Type 0} where
       record {
         receipts_apart = w.sound.apart;
         exactly_once = λ p e m. x.once e.receipt ∙ given_once w p e m;
-        dispatched_in_time = λ q f m. let c = w.sound.came q f m in record { place = c.place; is_post = c.is-post; after = c.after; in_time = c.in-time };
+        dispatched_in_time = λ q f m. let c = w.sound.came q f m in record { place = c.place; is_post = c.is_post; after = c.after; in_time = c.in_time };
         named_after_turn = x.named_late;
         pending_before = λ i f m. let a = all_nth _ _ i f (pending_facts w.sound) m in record { place = a.0.0; is_post = a.0.1; past = (pending_parts w.sound f a.1).1 };
         waiting_after = λ i f m. past_lies _ f (all_nth (Past (run b calls).history) _ i f x.waits m);

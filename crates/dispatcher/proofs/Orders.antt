@@ -73,7 +73,7 @@ module _ {M : Type 0} where
       serve : (p q : ℕ) → (o p ≡ Some q) × (q < length h) → Serves h p q
       serve p q k =
           let c = s.serves p q k.0 in
-          record { entry = c.entry; is_post = nth_back h v _ p (let a = c.after in let b = k.1 in omega arith) c.is-post; answer = c.answer; is_call = nth_back h v _ q k.1 c.is_call; after = c.after; in_time = λ r t n m d. c.in-time r t n (nth_keeps h v _ r m) d }
+          record { entry = c.entry; is_post = nth_back h v _ p (let a = c.after in let b = k.1 in omega arith) c.is_post; answer = c.answer; is_call = nth_back h v _ q k.1 c.is_call; after = c.after; in_time = λ r t n m d. c.in_time r t n (nth_keeps h v _ r m) d }
 
   -- a post of the longer history has the same event in the shorter one
   same_at : (h : History M) (v : Event M) (f : Entry M → Bool) (p : ℕ) → p < length h → at_post f (slice_get (h ++ v ∷ []) p) ≡ at_post f (slice_get h p)

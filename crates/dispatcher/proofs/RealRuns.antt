@@ -50,8 +50,8 @@ module _ {M : Type 0} (b : Terms M) where
       let e = each_once b calls in
       let late : (run b calls).state.late ≡ v.late = ap (λ (x : State M). x.late) s.numbers in
       record {
-        own_is_order = l.own-is-order;
-        own_late = sym late ∙ l.own-late;
+        own_is_order = l.own_is_order;
+        own_late = sym late ∙ l.own_late;
         least = λ o g. let k = l.least o g in omega arith;
         warnings = warnings_right b calls;
         receipts_apart = e.receipts_apart;

@@ -33,7 +33,7 @@ any_keeps t h v e = any_push t h v ∙ or_left (any t h) (t v) e
 module _ {M : Type 0} where
   pub came_push : (h : History M) (v : Event M) (q : ℕ) (f : Entry M) → q < length h → Came h q f → Came (h ++ v ∷ []) q f
   came_push h v q f l c =
-      record { place = c.place; is_post = nth_keeps h v (Posted f) c.place c.is-post; after = c.after; in_time = λ r t n e d. ⊎_elim (λ k. c.in-time r t n k d) (λ k. omega arith) (nth_cases h v (Turned t n) r e) }
+      record { place = c.place; is_post = nth_keeps h v (Posted f) c.place c.is_post; after = c.after; in_time = λ r t n e d. ⊎_elim (λ k. c.in_time r t n k d) (λ k. omega arith) (nth_cases h v (Turned t n) r e) }
 
   -- some turn in the history was told d or later only if the cycle is d or later
   pub turned_le : (h : History M) (z d : ℕ) → ((r t k : ℕ) → slice_get h r ≡ Some (Turned t k) → t ≤ z) → turned_to h d ≡ true → d ≤ z
@@ -70,7 +70,7 @@ module _ {M : Type 0} where
       at q (Dispatched None) m r = false≢true r
       at q (Dispatched (Some f)) m r =
           let c = came q f m in
-          let a = below c.place f c.is-post in
+          let a = below c.place f c.is_post in
           let b = eqb-true f.receipt n r in
           omega arith
       at q (Turned t k) m r = false≢true r

@@ -129,10 +129,10 @@ module _ {M : Type 0} where
     own_order = record { serves = λ p q k. made p q (own_call p q k); one_each = λ p p' q k k'. once p p' q (own_call p q k) (own_call p' q k') }
       where
         made : (p q : ℕ) → Own h p q → Serves h p q
-        made p q c = record { entry = c.entry; is_post = c.is-post; answer = Some c.entry; is_call = c.is_call; after = (let a = c.same_place in let b = c.came.after in omega arith); in_time = c.came.in_time }
+        made p q c = record { entry = c.entry; is_post = c.is_post; answer = Some c.entry; is_call = c.is_call; after = (let a = c.same_place in let b = c.came.after in omega arith); in_time = c.came.in_time }
 
         once : (p p' q : ℕ) → Own h p q → Own h p' q → p ≡ p'
-        once p p' q c c' = w.sound.apart p p' c.entry c'.entry c.is-post c'.is_post (ap receipt_of (inside c.entry c'.entry (sym c.is_call ∙ c'.is_call)))
+        once p p' q c c' = w.sound.apart p p' c.entry c'.entry c.is_post c'.is_post (ap receipt_of (inside c.entry c'.entry (sym c.is_call ∙ c'.is_call)))
           where
             receipt_of : Entry M → ℕ
             receipt_of x = x.receipt
