@@ -1,5 +1,8 @@
 -- What the dispatcher's calls answer and leave, in the machine's terms.
 use Rattle.std.specs.Prelude.{◌≡◌, ℕ, ◌-◌, Bool, true, false, List, [], ◌∷◌, ◌++◌, length, Ok, Err, Option, Result, nat_lt}
+use Rattle.banks.specs.declared.bank.Trays
+use Rattle.messages.specs.declared.message.Message
+use Rattle.messages.specs.declared.message.Timed
 use Rattle.banks.specs.declared.cell.Cell.{Cell}
 use Rattle.banks.specs.Trays.{held_in}
 use Rattle.messages.specs.declared.refusal.Refusal.{Refusal}
@@ -21,14 +24,14 @@ module _ {B M : Type 0} (trays : B → List (List (Cell M))) (each all : B → �
   terms b = record { interval = interval; span = length (trays b) - 1; tray_limit = each b; total_limit = all b; holds = nat_lt 0 (held_in (trays b)) }
 
   -- a new dispatcher shows the start of the machine
-  abbrev pub Starts : B → Dispatcher B M → Type 0
+  abbrev pub Starts : {t : Trays.Ghosts B M} {m : Message.Ghosts M} {i : Timed.Ghosts M} → B → Dispatcher B M t m i → Type 0
   Starts b d = Shows (terms b) (view trays each all interval d) start
 
   -- the first of the cycles ahead of an open dispatcher that has more entries due by it than c in each cycle can serve
-  abbrev pub Foresees : Dispatcher B M → ℕ → Option Warning → Type 0
+  abbrev pub Foresees : {t : Trays.Ghosts B M} {m : Message.Ghosts M} {i : Timed.Ghosts M} → Dispatcher B M t m i → ℕ → Option Warning → Type 0
   Foresees d c r = (b : Terms M) (m : State M) → Shows b (view trays each all interval d) m → d.«open» ≡ true → first_over c d.cycle m.pending 1 d.span ≡ r
 
   -- whatever state of the machine the dispatcher showed, the event is the machine's at that state, and the dispatcher shows
   -- the machine's next state
-  abbrev pub Steps : Dispatcher B M → Dispatcher B M → Call M → Event M → Type 0
+  abbrev pub Steps : {t : Trays.Ghosts B M} {m : Message.Ghosts M} {i : Timed.Ghosts M} → Dispatcher B M t m i → Dispatcher B M t m i → Call M → Event M → Type 0
   Steps before after c a = Simulates (view trays each all interval before) (view trays each all interval after) c a

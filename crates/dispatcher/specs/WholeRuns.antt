@@ -1,6 +1,9 @@
 -- The law of whole runs, of a dispatcher as it is: its late count, and the trays of its bank.
 use Rattle.std.specs.Prelude.{◌≡◌, ℕ, ◌+◌, ◌≤◌, List, [], ◌∷◌, ◌++◌, map, length, take, Some, count_by, Option, nat_eq}
 use Rattle.std.specs.List.{slice_get}
+use Rattle.banks.specs.declared.bank.Trays
+use Rattle.messages.specs.declared.message.Message
+use Rattle.messages.specs.declared.message.Timed
 use Rattle.banks.specs.declared.cell.Cell.{Cell}
 use Rattle.dispatcher.specs.declared.dispatcher.Dispatcher.{Dispatcher}
 use Rattle.dispatcher.specs.declared.event.Event.TheVariants.{Dispatched, Named, Posted}
@@ -49,12 +52,12 @@ pub record Obeyed {M : Type 0} (h : History M) (k : ℕ) : Type 0 where
 module _ {B M : Type 0} (trays : B → List (List (Cell M))) where
   -- these calls, made on a new dispatcher, left the dispatcher d and happened as h says: at the start, after each call, and
   -- at the end, with the late count and the trays that d has
-  pub record WholeRun (d : Dispatcher B M) (calls : List (Call M)) (h : History M) : Type 0 where
+  pub record WholeRun {t : Trays.Ghosts B M} {m : Message.Ghosts M} {i : Timed.Ghosts M} (d : Dispatcher B M t m i) (calls : List (Call M)) (h : History M) : Type 0 where
     pub of_calls : map call_of h ≡ calls
     pub after_each : (k : ℕ) → k ≤ length calls → Obeyed h k
     pub law : Obeys h d.late (trays d.bank)
 
   -- a call of a dispatcher carries the law on
-  abbrev pub ObeysOn : (B → ℕ) → (B → ℕ) → (M → ℕ) → Dispatcher B M → Dispatcher B M → Call M → Event M → Type 0
+  abbrev pub ObeysOn : {t : Trays.Ghosts B M} {m : Message.Ghosts M} {i : Timed.Ghosts M} → (B → ℕ) → (B → ℕ) → (M → ℕ) → Dispatcher B M t m i → Dispatcher B M t m i → Call M → Event M → Type 0
   ObeysOn each all interval before after c a =
       CarriesOn (view trays each all interval before) (view trays each all interval after) c a
