@@ -1,23 +1,20 @@
 -- A dispatcher that shows a state of the machine shows the next one after a call.
-use Rattle.std.proofs.Common.{◌≡◌, ℕ, zero, suc, ◌+◌, ◌-◌, ◌%◌, ◌<◌, ◌≤◌, Bool, true, false, cond, not, ◌&&◌, ◌||◌, eqb, ltb, leb, ◌⊎◌, List, [], ◌∷◌, ◌++◌, map, length, set, Some, None, Ok, Err, count_by, filter, Option, sym, refl, ap, ◌∙◌, subst, inl, inr, ⊎_elim, add-zero, mod-lt, arith}
-use Rattle.std.specs.List.{AllByRecursion as All}
+use Rattle.std.proofs.Common.{◌≡◌, ℕ, ◌+◌, ◌-◌, ◌%◌, ◌<◌, ◌≤◌, Bool, true, false, cond, not, ◌||◌, eqb, ltb, leb, ◌⊎◌, List, [], ◌∷◌, ◌++◌, length, set, Some, None, Option, sym, refl, ap, ◌∙◌, subst, ⊎_elim, arith}
 use Rattle.std.proofs.lemmas.List.{length-set, length_push, length-append}
-use Rattle.std.proofs.lemmas.Bool.{cases_lt, cases_eq, cases_Bool, eq-eqb, ne_eqb, eqb-true, eqb-false, le-ltb, lt-ltb, le-leb, lt-leb, or_from, or_left, or_right, true≢false, cond-true, cond-false}
+use Rattle.std.proofs.lemmas.Bool.{eq-eqb, ne_eqb, le-ltb, lt-ltb, le-leb, lt-leb, or_from, or_left, or_right, true≢false, cond-true, cond-false}
 use Rattle.banks.specs.declared.cell.Cell.{Cell}
-use Rattle.banks.specs.Trays.{tray_at, held_in, without_first}
-use Rattle.dispatcher.specs.declared.entry.Entry.{Entry}
+use Rattle.banks.specs.Trays.{tray_at, held_in}
 use Rattle.dispatcher.specs.declared.call.Call.{Call}
 use Rattle.dispatcher.specs.declared.event.Event.{Event}
-use Rattle.dispatcher.specs.declared.entry.Figures.{Figures}
-use Rattle.dispatcher.specs.Machine.{Terms, State, without, due_at, in_tray, limit, refusal, act, step, unless, first_of}
-use Rattle.dispatcher.specs.declared.call.Call.TheVariants.{Ask, Begin, Dispatch, Name, Open, Post, Turn, Warn}
-use Rattle.dispatcher.specs.declared.event.Event.TheVariants.{Asked, Begun, Dispatched, Named, Opened, Posted, Refused, Turned, Warned}
+use Rattle.dispatcher.specs.Machine.{Terms, State, in_tray, limit, refusal, act, step, unless}
+use Rattle.dispatcher.specs.declared.call.Call.TheVariants.{Open, Post}
+use Rattle.dispatcher.specs.declared.event.Event.TheVariants.{Opened, Posted, Refused}
 use Rattle.messages.specs.declared.refusal.Refusal.{Refusal}
-use Rattle.messages.specs.declared.refusal.Refusal.TheVariants.{AlreadyOpen, CyclesUsedUp, Full, IntervalOutOfRange, LateWaiting, NotNextCycle, OutOfPhase, ReceiptsUsedUp, Shut, StartTooHigh, TooManyServices, UnfitBank}
+use Rattle.messages.specs.declared.refusal.Refusal.TheVariants.{AlreadyOpen, Full, IntervalOutOfRange, ReceiptsUsedUp, Shut, StartTooHigh, UnfitBank}
 use Rattle.dispatcher.specs.Views.{View}
-use Rattle.dispatcher.specs.Shown.{Shows, Agrees, Idle, Running, Rising, cells, cell_of, state_of}
+use Rattle.dispatcher.specs.Shown.{Shows, Running, state_of}
 use Rattle.dispatcher.proofs.Rings.{none_in}
-use Rattle.dispatcher.proofs.Keeps.{running_post, running_dispatch, in_tray_is}
+use Rattle.dispatcher.proofs.Keeps.{running_post, in_tray_is}
 
 -- the first of some tests holds, or it does not
 pub here : (t : Bool) (k : Refusal) (rest : Option Refusal) → t ≡ true → cond t (Some k) rest ≡ Some k

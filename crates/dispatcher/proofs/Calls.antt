@@ -1,10 +1,9 @@
 -- The history is of the calls that were made.
-use Rattle.std.proofs.Common.{◌≡◌, ℕ, List, [], ◌∷◌, ◌++◌, map, Some, None, fold, Option, sym, refl, ap, ◌∙◌, subst, append_assoc, append-nil}
+use Rattle.std.proofs.Common.{◌≡◌, List, [], ◌∷◌, ◌++◌, map, Some, None, fold, Option, sym, refl, ap, ◌∙◌, append_assoc, append-nil}
 use Rattle.std.proofs.lemmas.List.{map_push}
 use Rattle.std.proofs.lemmas.List.Sums.{fold_push}
-use Rattle.dispatcher.specs.Machine.{Entry, Event, Call, Terms, State, Told, told, step, act, unless, refusal, serve, tell, soonest, run, start, call_of}
+use Rattle.dispatcher.specs.Machine.{Entry, Call, Terms, State, Told, told, step, act, unless, refusal, serve, tell, soonest, run, start, call_of}
 use Rattle.dispatcher.specs.declared.call.Call.TheVariants.{Ask, Begin, Dispatch, Name, Open, Post, Turn, Warn}
-use Rattle.dispatcher.specs.declared.event.Event.TheVariants.{Asked, Begun, Dispatched, Named, Opened, Posted, Refused, Turned, Warned}
 use Rattle.dispatcher.specs.History.{History}
 use Rattle.messages.specs.declared.refusal.Refusal.{Refusal}
 use Rattle.dispatcher.specs.Theorems.{IsOfCalls}

@@ -1,21 +1,19 @@
 -- The calls dispatch and name.
-use Rattle.std.proofs.Common.{◌≡◌, ℕ, zero, suc, ◌+◌, ◌-◌, ◌%◌, ◌<◌, ◌≤◌, Bool, true, false, cond, not, ◌&&◌, ◌||◌, eqb, ltb, leb, ◌⊎◌, List, [], ◌∷◌, ◌++◌, map, length, set, Some, None, Ok, Err, filter, Option, sym, refl, ap, ◌∙◌, subst, inl, inr, ⊎_elim, arith}
+use Rattle.std.proofs.Common.{◌≡◌, ℕ, ◌+◌, ◌-◌, ◌%◌, ◌<◌, ◌≤◌, true, not, List, [], ◌∷◌, length, set, Some, None, filter, sym, refl, ap, ◌∙◌, subst, arith}
 use Rattle.std.specs.List.{AllByRecursion as All}
 use Rattle.std.proofs.ByRecursion.{All-weaker}
 use Rattle.std.proofs.lemmas.List.{length-set, length-map, nil_from_length, set-get_or}
 use Rattle.std.proofs.lemmas.Bool.{eqb-true, true≢false}
 use Rattle.banks.specs.declared.cell.Cell.{Cell}
-use Rattle.banks.specs.Trays.{tray_at, held_in, without_first, first_of}
+use Rattle.banks.specs.Trays.{tray_at, without_first, first_of}
 use Rattle.dispatcher.specs.declared.entry.Entry.{Entry}
-use Rattle.dispatcher.specs.declared.call.Call.{Call}
-use Rattle.dispatcher.specs.declared.event.Event.{Event}
-use Rattle.dispatcher.specs.Machine.{Terms, State, without, due_at, limit, refusal, act, step, soonest, serve, tell}
-use Rattle.dispatcher.specs.declared.call.Call.TheVariants.{Ask, Begin, Dispatch, Name, Open, Post, Turn, Warn}
-use Rattle.dispatcher.specs.declared.event.Event.TheVariants.{Asked, Begun, Dispatched, Named, Opened, Posted, Refused, Turned, Warned}
-use Rattle.messages.specs.declared.refusal.Refusal.TheVariants.{AlreadyOpen, CyclesUsedUp, Full, IntervalOutOfRange, LateWaiting, NotNextCycle, OutOfPhase, ReceiptsUsedUp, Shut, StartTooHigh, TooManyServices, UnfitBank}
+use Rattle.dispatcher.specs.Machine.{Terms, State, without, due_at, limit, step, soonest, serve, tell}
+use Rattle.dispatcher.specs.declared.call.Call.TheVariants.{Dispatch, Name}
+use Rattle.dispatcher.specs.declared.event.Event.TheVariants.{Dispatched, Named}
+use Rattle.messages.specs.declared.refusal.Refusal.TheVariants.{Shut}
 use Rattle.dispatcher.specs.Views.{View}
 use Rattle.dispatcher.specs.Search.{tray_ahead, FirstHeld}
-use Rattle.dispatcher.specs.Shown.{Shows, Agrees, Running, cells, cell_of, state_of}
+use Rattle.dispatcher.specs.Shown.{Shows, cells, cell_of, state_of}
 use Rattle.dispatcher.proofs.Queues.{removed, none_kept, none_before, none_at_all, soonest_is}
 use Rattle.dispatcher.proofs.Keeps.{running_dispatch, running_name}
 use Rattle.dispatcher.proofs.Calling.{accept, skip}

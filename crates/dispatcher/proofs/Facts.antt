@@ -1,14 +1,13 @@
 -- What ties the machine's state to its history, and stays so at each step.
-use Rattle.std.proofs.Common.{◌≡◌, ℕ, zero, suc, ◌+◌, ◌<◌, ◌≤◌, Bool, true, false, cond, not, ◌&&◌, ◌||◌, eqb, ltb, leb, ◌⊎◌, List, [], ◌∷◌, ◌++◌, length, Some, None, count_by, filter, Option, sym, refl, ap, ◌∙◌, subst, inl, inr, ⊎_elim, append_assoc, append-nil, arith}
+use Rattle.std.proofs.Common.{◌≡◌, ℕ, suc, Bool, true, false, cond, not, ◌&&◌, ◌||◌, List, [], ◌∷◌, ◌++◌, length, Some, None, count_by, filter, sym, refl, ap, ◌∙◌, ⊎_elim, append_assoc, append-nil, arith}
 use Rattle.std.specs.List.{slice_get, AllByRecursion as All}
 use Rattle.std.proofs.lemmas.List.Elements.{filter-append}
-use Rattle.std.proofs.ByRecursion.{All-append, All-weaker, all_kept_by, kept_by_passes}
-use Rattle.std.proofs.lemmas.Bool.{cases_Bool, cases_eq, cases_lt, false≢true, true≢false, and_parts, and_from, eq-eqb, ne_eqb, eqb-true, eqb-false, not-true, not_from_false, both_ways, le-leb, lt-leb, leb-true, leb-false, or_from, or_left, or_cases}
-use Rattle.dispatcher.specs.Machine.{Entry, Call, Event, Figures, Terms, State, soonest, sooner, without, due_by, new_entry}
+use Rattle.std.proofs.ByRecursion.{All-append, All-weaker}
+use Rattle.dispatcher.specs.Machine.{Entry, Event}
 use Rattle.dispatcher.specs.declared.event.Event.TheVariants.{Asked, Begun, Dispatched, Named, Opened, Posted, Refused, Turned, Warned}
-use Rattle.dispatcher.specs.History.{History, any, count, reaches, answers, is_receipt, turned_to, was_dispatched, is_pending, of_post, at_post}
+use Rattle.dispatcher.specs.History.{History, count, reaches, answers, turned_to, was_dispatched, is_pending, of_post, at_post}
 use Rattle.dispatcher.proofs.Counts.{count_first}
-use Rattle.dispatcher.proofs.Places.{nth_inside, nth_push_new, nth_push_old, nth_keeps, nth_cases, any_push, any_from, any_place, kept_same, kept_kept, count_cons, count_append, count_kept, countBy_same, countBy_both}
+use Rattle.dispatcher.proofs.Places.{nth_cases, any_push, kept_same, kept_kept, count_cons, count_append}
 
 -- the entries of the accepted posts, in order
 abbrev pub front : {M : Type 0} → Event M → List (Entry M)

@@ -1,5 +1,5 @@
 -- The call warn: a sum of trays is how many are due.
-use Rattle.std.proofs.Common.{◌≡◌, ℕ, zero, suc, ◌+◌, ◌-◌, ◌*◌, ◌%◌, ◌<◌, ◌≤◌, Bool, true, false, cond, not, ◌&&◌, ◌||◌, eqb, ltb, leb, ◌⊎◌, List, [], ◌∷◌, ◌++◌, map, length, Some, None, Ok, Err, count_by, filter, Option, sym, refl, ap, ◌∙◌, subst, inl, inr, ⊎_elim, add-zero, add-one, arith}
+use Rattle.std.proofs.Common.{◌≡◌, ℕ, suc, ◌+◌, ◌-◌, ◌*◌, ◌<◌, ◌≤◌, true, false, cond, not, eqb, ltb, leb, List, [], ◌∷◌, length, Some, None, count_by, filter, Option, sym, refl, ap, ◌∙◌, subst, ⊎_elim, add-zero, arith}
 use Rattle.std.specs.List.{AllByRecursion as All}
 use Rattle.std.proofs.ByRecursion.{All-weaker}
 use Rattle.std.proofs.lemmas.List.Sums.{length-filter, count_by-le-length, sum_by-cons}
@@ -7,13 +7,13 @@ use Rattle.std.proofs.lemmas.List.{length-map}
 use Rattle.std.proofs.lemmas.Bool.{cases_order, eq-eqb, ne_eqb, le-leb, lt-leb, le-ltb, lt-ltb, cond-true, cond-false}
 use Rattle.dispatcher.specs.declared.entry.Entry.{Entry}
 use Rattle.dispatcher.specs.Machine.{Terms, State, limit, due_at, due_by, first_over, step}
-use Rattle.dispatcher.specs.declared.call.Call.TheVariants.{Ask, Begin, Dispatch, Name, Open, Post, Turn, Warn}
-use Rattle.dispatcher.specs.declared.event.Event.TheVariants.{Asked, Begun, Dispatched, Named, Opened, Posted, Refused, Turned, Warned}
+use Rattle.dispatcher.specs.declared.call.Call.TheVariants.{Warn}
+use Rattle.dispatcher.specs.declared.event.Event.TheVariants.{Warned}
 use Rattle.dispatcher.specs.declared.entry.Warning.{Warning}
-use Rattle.messages.specs.declared.refusal.Refusal.TheVariants.{AlreadyOpen, CyclesUsedUp, Full, IntervalOutOfRange, LateWaiting, NotNextCycle, OutOfPhase, ReceiptsUsedUp, Shut, StartTooHigh, TooManyServices, UnfitBank}
+use Rattle.messages.specs.declared.refusal.Refusal.TheVariants.{Shut, TooManyServices}
 use Rattle.dispatcher.specs.Views.{View}
 use Rattle.dispatcher.specs.Search.{tray_ahead}
-use Rattle.dispatcher.specs.Shown.{Shows, cells, cell_of}
+use Rattle.dispatcher.specs.Shown.{Shows, cell_of}
 use Rattle.dispatcher.proofs.Queues.{count_none}
 use Rattle.dispatcher.proofs.Calling.{accept, skip}
 

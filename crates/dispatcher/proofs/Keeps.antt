@@ -1,5 +1,5 @@
 -- What stays true of the trays of a dispatcher that is open, over each change of them.
-use Rattle.std.proofs.Common.{◌≡◌, ℕ, zero, suc, ◌+◌, ◌-◌, ◌%◌, ◌<◌, ◌≤◌, Bool, true, false, cond, not, ◌&&◌, ◌||◌, eqb, ltb, leb, ◌⊎◌, List, [], ◌∷◌, ◌++◌, map, length, set, count_by, filter, sym, refl, ap, ◌∙◌, subst, inl, inr, ⊎_elim, add-zero, add_assoc, mod-lt, arith}
+use Rattle.std.proofs.Common.{◌≡◌, ℕ, ◌+◌, ◌-◌, ◌%◌, ◌<◌, ◌≤◌, Bool, true, false, cond, not, eqb, List, [], ◌∷◌, ◌++◌, length, set, count_by, filter, sym, refl, ap, ◌∙◌, subst, ⊎_elim, add-zero, mod-lt, arith}
 use native.Mathlib.Nat.{add-mod_right}
 use Rattle.std.specs.List.{AllByRecursion as All}
 use Rattle.std.proofs.lemmas.List.Elements.{filter-append}
@@ -7,14 +7,14 @@ use Rattle.std.proofs.ByRecursion.{All-weaker, all_kept_by, All-push, kept_by_pa
 use Rattle.std.proofs.lemmas.List.Filters.{length-filter_both}
 use Rattle.std.proofs.lemmas.List.Sums.{length-filter, sum_by-append}
 use Rattle.std.proofs.lemmas.List.{get_or-set_same, get_or-set_other, length-set, length_push, length-map, map_push, append-nil}
-use Rattle.std.proofs.lemmas.Bool.{cases_lt, cases_eq, cases_Bool, eq-eqb, ne_eqb, eqb-true, eqb-false, not-true, not-false}
+use Rattle.std.proofs.lemmas.Bool.{cases_lt, cases_eq, eq-eqb, ne_eqb, eqb-true, eqb-false, not-true, not-false}
 use Rattle.banks.specs.declared.cell.Cell.{Cell}
-use Rattle.banks.specs.Trays.{tray_at, held_in, without_first}
+use Rattle.banks.specs.Trays.{tray_at, without_first}
 use Rattle.dispatcher.specs.declared.entry.Entry.{Entry}
 use Rattle.dispatcher.specs.Machine.{Terms, without, due_at, in_tray}
-use Rattle.dispatcher.specs.Shown.{Running, Rising, cells, cell_of}
+use Rattle.dispatcher.specs.Shown.{Running, cells, cell_of}
 use Rattle.dispatcher.proofs.Rings.{other_place, held_set}
-use Rattle.dispatcher.proofs.Queues.{Removed, removed, kept_yes, kept_no, kept_none, kept_twice, rising_kept, rising_push, count_same, count_none, all_both}
+use Rattle.dispatcher.proofs.Queues.{removed, kept_yes, kept_no, kept_none, kept_twice, rising_kept, rising_push, count_same, count_none, all_both}
 
 other_here : (n z f : ℕ) → 0 < f → f < n → z % n ≡ (z + f) % n → ⊥
 other_here n z f l k e = other_place n z 0 f (omega arith) k (λ i. omega arith) (ap (λ x. x % n) (add-zero z) ∙ e)

@@ -1,13 +1,13 @@
 -- The late count is the number of posts that were turned past and never dispatched.
-use Rattle.std.proofs.Common.{◌≡◌, ℕ, zero, suc, ◌+◌, ◌<◌, ◌≤◌, Bool, true, false, cond, not, ◌&&◌, ◌||◌, eqb, ltb, leb, ◌⊎◌, List, [], ◌∷◌, ◌++◌, length, Some, None, count_by, filter, sym, refl, ap, ◌∙◌, subst, inl, inr, ⊎_elim, append_assoc, append-nil, arith}
+use Rattle.std.proofs.Common.{◌≡◌, ℕ, ◌+◌, ◌<◌, Bool, true, false, cond, not, ◌&&◌, ◌||◌, eqb, leb, ◌⊎◌, List, [], ◌∷◌, ◌++◌, Some, count_by, sym, refl, ap, ◌∙◌, subst, inl, inr, append-nil, arith}
 use Rattle.std.specs.List.{slice_get, AllByRecursion as All}
 use Rattle.std.proofs.ByRecursion.{All-weaker}
-use Rattle.std.proofs.lemmas.Bool.{cases_eq, false≢true, true≢false, ne_eqb}
+use Rattle.std.proofs.lemmas.Bool.{cases_eq, ne_eqb}
 use Rattle.dispatcher.specs.Machine.{Entry, Event, due_by}
-use Rattle.dispatcher.specs.declared.event.Event.TheVariants.{Asked, Begun, Dispatched, Named, Opened, Posted, Refused, Turned, Warned}
+use Rattle.dispatcher.specs.declared.event.Event.TheVariants.{Dispatched, Posted, Turned}
 use Rattle.dispatcher.specs.History.{History, reaches, answers, turned_to, was_dispatched, is_pending}
 use Rattle.dispatcher.proofs.Places.{any_push, count_cons, count_append, count_kept, countBy_both}
-use Rattle.dispatcher.proofs.Facts.{front, posts, kind, is_lost, passes, IsPosted, posts_push, all_posts, no_answer, no_reach, no_front}
+use Rattle.dispatcher.proofs.Facts.{posts, kind, is_lost, IsPosted, posts_push, all_posts, no_answer, no_reach, no_front}
 use Rattle.dispatcher.proofs.Sound.{Sound, not_turned, pending_parts}
 
 pub countBy_all : {X : Type 0} (f g : X → Bool) (xs : List X) → All (λ x. f x ≡ g x) xs → count_by f xs ≡ count_by g xs

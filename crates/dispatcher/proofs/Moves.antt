@@ -1,11 +1,11 @@
 -- The steps of the machine, one by one, with what an acceptance says.
-use Rattle.std.proofs.Common.{◌≡◌, ℕ, zero, suc, ◌+◌, ◌<◌, ◌≤◌, Bool, true, false, cond, not, ◌&&◌, ◌||◌, eqb, ltb, leb, ◌⊎◌, List, [], ◌∷◌, ◌++◌, Some, None, count_by, filter, Option, sym, refl, ap, ◌∙◌, subst, inl, inr, ⊎_elim, arith}
-use Rattle.std.proofs.lemmas.Bool.{true≢false, false≢true, or_parts, not-false, ltb-false, eqb-false, eqb-true, cases_eq, le-leb, lt-leb, eq-eqb, ne_eqb}
+use Rattle.std.proofs.Common.{◌≡◌, ℕ, ◌+◌, ◌<◌, ◌≤◌, Bool, true, false, cond, not, ◌||◌, eqb, ltb, leb, List, [], ◌∷◌, ◌++◌, Some, None, count_by, filter, Option, sym, refl, ◌∙◌, subst, ⊎_elim, arith}
+use Rattle.std.proofs.lemmas.Bool.{true≢false, or_parts, not-false, ltb-false, eqb-false, eqb-true, cases_eq, le-leb, lt-leb, eq-eqb, ne_eqb}
 use Rattle.std.proofs.ByRecursion.{All-weaker}
 use Rattle.std.specs.List.{AllByRecursion as All}
 use Rattle.dispatcher.proofs.Places.{count_cons}
 use Rattle.messages.specs.declared.refusal.Refusal.{Refusal}
-use Rattle.dispatcher.specs.Machine.{Entry, Call, Event, Figures, Terms, State, act, unless, step, refusal, serve, tell, soonest, new_entry, due_by, due_at, first_over, first_of, is_empty}
+use Rattle.dispatcher.specs.Machine.{Entry, Call, Event, Figures, Terms, State, act, unless, step, refusal, serve, tell, soonest, new_entry, due_by, due_at, first_over, is_empty}
 use Rattle.dispatcher.specs.declared.call.Call.TheVariants.{Ask, Begin, Dispatch, Name, Open, Post, Turn, Warn}
 use Rattle.dispatcher.specs.declared.event.Event.TheVariants.{Asked, Begun, Dispatched, Named, Opened, Posted, Refused, Turned, Warned}
 

@@ -1,18 +1,18 @@
 -- Each receipt is accounted for exactly once, at each step.
-use Rattle.std.proofs.Common.{◌≡◌, ℕ, zero, suc, ◌+◌, ◌<◌, ◌≤◌, Bool, true, false, cond, not, ◌&&◌, ◌||◌, eqb, ltb, leb, ◌⊎◌, List, [], ◌∷◌, ◌++◌, length, Some, None, fold, count_by, filter, Option, sym, refl, ap, ◌∙◌, subst, inl, inr, ⊎_elim, append-nil, arith}
+use Rattle.std.proofs.Common.{◌≡◌, ℕ, ◌+◌, ◌<◌, ◌≤◌, Bool, true, false, cond, not, ◌&&◌, eqb, leb, List, [], ◌∷◌, ◌++◌, length, Some, fold, count_by, filter, sym, refl, ap, ◌∙◌, subst, ⊎_elim, arith}
 use Rattle.std.specs.List.{slice_get, AllByRecursion as All}
 use Rattle.std.proofs.ByRecursion.{All-append, All-weaker, all_kept_by, kept_by_passes}
-use Rattle.std.proofs.lemmas.Bool.{cases_eq, cases_Bool, leb-true, le-leb, eq-eqb, ne_eqb, eqb-true, and_from, and_parts, or_right, not-true, false≢true, true≢false}
+use Rattle.std.proofs.lemmas.Bool.{cases_eq, leb-true, le-leb, eq-eqb, ne_eqb, eqb-true, and_from, and_parts, false≢true}
 use Rattle.dispatcher.specs.Machine.{Entry, Event, Call, Terms, State, Told, told, step, run, start, due_by, soonest, without, new_entry}
-use Rattle.dispatcher.specs.declared.event.Event.TheVariants.{Asked, Begun, Dispatched, Named, Opened, Posted, Refused, Turned, Warned}
-use Rattle.dispatcher.specs.History.{History, count, at_post, of_post, reaches, answers, names, turned_to, is_pending, dispatches, namings, lying, DispatchedInTime, NamedAfterTurn, Lies}
+use Rattle.dispatcher.specs.declared.event.Event.TheVariants.{Named, Posted, Turned}
+use Rattle.dispatcher.specs.History.{History, at_post, reaches, answers, names, is_pending, dispatches, namings, lying, NamedAfterTurn, Lies}
 use Rattle.dispatcher.specs.Theorems.{EachOnce}
-use Rattle.dispatcher.proofs.Counts.{count_lt, count_none, pigeonhole}
-use Rattle.dispatcher.proofs.Places.{nth_inside, nth_push_new, any_from, nth_keeps, nth_cases, any_push, any_place, count_cons, count_append, count_kept, countBy_both, countBy_same}
+use Rattle.dispatcher.proofs.Counts.{count_lt, pigeonhole}
+use Rattle.dispatcher.proofs.Places.{nth_inside, nth_push_new, any_from, nth_keeps, nth_cases, count_cons, count_append, count_kept, countBy_both}
 use Rattle.dispatcher.proofs.Moves.{Move, step_moves}
 use Rattle.dispatcher.proofs.Moves.Move.{refusing, opening, posting, idling, serving, turning, unnamed, naming, warning, beginning, asking}
-use Rattle.dispatcher.proofs.Facts.{front, posts, kind, IsPosted, posts_push, count_posts}
-use Rattle.dispatcher.proofs.Sound.{Sound, Came, any_keeps, pending_facts, pending_parts}
+use Rattle.dispatcher.proofs.Facts.{front, posts, IsPosted, posts_push, count_posts}
+use Rattle.dispatcher.proofs.Sound.{Sound, pending_facts, pending_parts}
 use Rattle.dispatcher.proofs.Orders.{at_post_true, at_post_from}
 use Rattle.dispatcher.proofs.Soonest.{all_nth, count_nth, countBy_none, soonest_at, one_receipt}
 use Rattle.dispatcher.proofs.Whole.{Known, known_step, known_start, later}

@@ -1,15 +1,14 @@
 -- No service order leaves fewer posts unserved than the machine does.
-use Rattle.std.proofs.Common.{◌≡◌, ℕ, zero, suc, ◌+◌, ◌<◌, ◌≤◌, Bool, true, false, cond, not, ◌&&◌, ◌||◌, eqb, ltb, leb, ◌⊎◌, List, [], ◌∷◌, ◌++◌, length, Some, None, count_by, filter, Option, sym, refl, ap, ◌∙◌, subst, inl, inr, ⊎_elim, append_assoc, append-nil, arith, length-append}
-use Rattle.std.specs.List.{slice_get, AllByRecursion as All}
+use Rattle.std.proofs.Common.{◌≡◌, ℕ, suc, ◌+◌, ◌<◌, ◌≤◌, Bool, true, false, cond, not, ◌&&◌, ltb, leb, ◌⊎◌, List, [], ◌∷◌, ◌++◌, length, Some, None, filter, Option, sym, refl, ap, ◌∙◌, subst, inl, inr, arith}
+use Rattle.std.specs.List.{slice_get}
 use Rattle.std.proofs.lemmas.List.{length_push}
-use Rattle.std.proofs.lemmas.Bool.{cases_eq, cases_lt, cases_Bool, false≢true, true≢false, ltb-true, ltb-false, lt-ltb, le-ltb, leb-true, le-leb, lt-leb, and_parts, and_from, not-true, not_from_false, both_ways}
+use Rattle.std.proofs.lemmas.Bool.{false≢true, true≢false, ltb-true, ltb-false, leb-true, le-leb, and_parts, and_from, not-true, not_from_false}
 use Rattle.dispatcher.specs.Machine.{Entry, Event, due_by}
 use Rattle.dispatcher.specs.declared.event.Event.TheVariants.{Asked, Begun, Dispatched, Named, Opened, Posted, Refused, Turned, Warned}
-use Rattle.dispatcher.specs.History.{History, count, is_some, reaches, answers, turned_to, was_dispatched, is_pending, of_post, at_post, Serves, ServiceOrder}
-use Rattle.dispatcher.proofs.Counts.{count_le, count_same, count_one}
-use Rattle.dispatcher.proofs.Places.{nth_inside, nth_push_new, nth_push_old, nth_keeps, nth_back, nth_cases, any_from, any_push, any_place, count_append, count_cons, count_kept, countBy_both}
+use Rattle.dispatcher.specs.History.{History, count, is_some, reaches, turned_to, at_post, Serves, ServiceOrder}
+use Rattle.dispatcher.proofs.Counts.{count_le, count_one}
+use Rattle.dispatcher.proofs.Places.{nth_inside, nth_push_new, nth_push_old, nth_keeps, nth_back, any_place, count_append, count_cons, count_kept, countBy_both}
 use Rattle.dispatcher.proofs.Facts.{kind, old}
-use Rattle.dispatcher.proofs.Sound.{Sound}
 
 -- the order as far as the calls before n
 pub before : ℕ → Option ℕ → Option ℕ

@@ -1,18 +1,18 @@
 -- The trays by their number: which entries lie in tray k. The same facts as of the trays ahead of the cycle.
-use Rattle.std.proofs.Common.{◌≡◌, ℕ, zero, suc, ◌+◌, ◌-◌, ◌*◌, ◌/◌, ◌%◌, ◌<◌, ◌≤◌, Bool, true, false, cond, not, eqb, ◌⊎◌, List, [], ◌∷◌, ◌++◌, map, length, filter, sym, refl, ap, ◌∙◌, subst, inl, inr, ⊎_elim, add-zero, mod-lt, mod-eq_of_lt, arith}
+use Rattle.std.proofs.Common.{◌≡◌, ℕ, ◌+◌, ◌-◌, ◌*◌, ◌/◌, ◌%◌, ◌<◌, ◌≤◌, Bool, true, false, cond, eqb, List, [], ◌∷◌, ◌++◌, filter, sym, refl, ap, ◌∙◌, subst, ⊎_elim, add-zero, mod-lt, mod-eq_of_lt, arith}
 use native.Mathlib.Nat.{add-mod-mod, add-mod_right, div-add-mod, mul-add-mod_self_left}
 use Rattle.std.specs.List.{AllByRecursion as All}
 use Rattle.std.proofs.lemmas.List.Elements.{filter-append}
 use Rattle.std.proofs.ByRecursion.{All-weaker}
 use Rattle.std.proofs.lemmas.List.{append-nil}
-use Rattle.std.proofs.lemmas.Bool.{cases_eq, cases_Bool, eq-eqb, ne_eqb}
+use Rattle.std.proofs.lemmas.Bool.{cases_eq, eq-eqb, ne_eqb}
 use Rattle.banks.specs.declared.cell.Cell.{Cell}
-use Rattle.banks.specs.Trays.{tray_at, held_in}
+use Rattle.banks.specs.Trays.{tray_at}
 use Rattle.dispatcher.specs.declared.entry.Entry.{Entry}
 use Rattle.dispatcher.specs.Machine.{due_at}
 use Rattle.dispatcher.specs.Shown.{Running, cells}
 use Rattle.dispatcher.proofs.Rings.{other_place}
-use Rattle.dispatcher.proofs.Queues.{kept_all, kept_none, kept_yes, kept_no}
+use Rattle.dispatcher.proofs.Queues.{kept_all, kept_none}
 
 -- each tray is that of some cycle from z to z + N
 reached : (n z k : ℕ) → k < n → (z + (k + (n - z % n)) % n) % n ≡ k

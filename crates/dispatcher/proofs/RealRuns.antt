@@ -1,12 +1,12 @@
 -- From the laws of the machine to those of the dispatcher that shows it.
-use Rattle.std.proofs.Common.{◌≡◌, ℕ, ◌+◌, ◌<◌, ◌≤◌, Bool, true, false, List, [], ◌∷◌, ◌++◌, map, length, Some, sym, refl, ap, ◌∙◌, subst, inl, inr, ⊎_elim, arith}
+use Rattle.std.proofs.Common.{◌≡◌, ℕ, ◌+◌, ◌<◌, ◌≤◌, true, false, List, [], ◌∷◌, ◌++◌, map, length, Some, sym, refl, ap, ◌∙◌, subst, inl, inr, ⊎_elim, arith}
 use Rattle.std.specs.List.{slice_get}
 use Rattle.std.proofs.lemmas.List.Sums.{fold_push}
 use Rattle.std.proofs.lemmas.List.{length-map, length_push, take_all, take-append-le}
 use Rattle.std.proofs.lemmas.Bool.{cases_Bool, cases_lt}
 use Rattle.banks.specs.declared.cell.Cell.{Cell}
 use Rattle.dispatcher.specs.declared.event.Event.TheVariants.{Posted}
-use Rattle.dispatcher.specs.History.{History, dispatches, lying, namings}
+use Rattle.dispatcher.specs.History.{History, dispatches, namings}
 use Rattle.dispatcher.specs.Machine.{Call, Entry, Event, State, Terms, Told, call_of, run, start, step, told}
 use Rattle.dispatcher.specs.Shown.{Shows}
 use Rattle.dispatcher.specs.Steps.{Simulates}

@@ -1,5 +1,5 @@
 -- A dispatcher is its parts: what its ghost fields say has one proof.
-use Rattle.std.proofs.Common.{◌≡◌, ℕ, ◌≤◌, sym, refl, ap, ◌∙◌, subst}
+use Rattle.std.proofs.Common.{◌≡◌, ◌≤◌}
 use native.Mathlib.Bridge.{le_prop}
 use Rattle.banks.specs.declared.bank.Trays
 use Rattle.messages.specs.declared.message.Message

@@ -1,13 +1,13 @@
 -- The entry that is dispatched, and what is due without it.
-use Rattle.std.proofs.Common.{◌≡◌, ℕ, zero, suc, ◌+◌, ◌<◌, ◌≤◌, Bool, true, false, cond, not, ◌&&◌, ◌||◌, eqb, ltb, leb, ◌⊎◌, List, [], ◌∷◌, ◌++◌, length, Some, None, count_by, filter, Option, sym, refl, ap, ◌∙◌, subst, inl, inr, ⊎_elim, arith}
+use Rattle.std.proofs.Common.{◌≡◌, ℕ, zero, suc, ◌+◌, ◌<◌, ◌≤◌, Bool, true, false, cond, not, ◌&&◌, eqb, leb, ◌⊎◌, List, [], ◌∷◌, length, Some, count_by, sym, refl, ap, ◌∙◌, subst, inl, inr, ⊎_elim, arith}
 use Rattle.std.specs.List.{slice_get, AllByRecursion as All}
 use Rattle.std.proofs.ByRecursion.{All-weaker}
 use Rattle.std.proofs.lemmas.Bool.{cases_lt, leb-true, leb-false, le-leb, lt-leb, eq-eqb, eqb-true, and_from, and_parts}
-use Rattle.dispatcher.specs.Machine.{Entry, Event, due_by, soonest, sooner, without}
-use Rattle.dispatcher.specs.declared.event.Event.TheVariants.{Asked, Begun, Dispatched, Named, Opened, Posted, Refused, Turned, Warned}
-use Rattle.dispatcher.specs.History.{History, count, at_post, is_pending}
+use Rattle.dispatcher.specs.Machine.{Entry, due_by, soonest, sooner, without}
+use Rattle.dispatcher.specs.declared.event.Event.TheVariants.{Posted}
+use Rattle.dispatcher.specs.History.{History, at_post, is_pending}
 use Rattle.dispatcher.proofs.Counts.{pigeonhole}
-use Rattle.dispatcher.proofs.Places.{count_cons, count_kept, countBy_both, countBy_same}
+use Rattle.dispatcher.proofs.Places.{count_cons, count_kept, countBy_both}
 use Rattle.dispatcher.proofs.Facts.{posts, count_posts}
 use Rattle.dispatcher.proofs.Sound.{Sound}
 use Rattle.dispatcher.proofs.Orders.{at_post_true}

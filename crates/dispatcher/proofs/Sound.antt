@@ -1,14 +1,13 @@
 -- The state as its history has it, at each step.
-use Rattle.std.proofs.Common.{◌≡◌, ℕ, zero, suc, ◌+◌, ◌<◌, ◌≤◌, Bool, true, false, cond, not, ◌&&◌, ◌||◌, eqb, ltb, leb, ◌⊎◌, List, [], ◌∷◌, ◌++◌, length, Some, None, count_by, filter, Option, sym, refl, ap, ◌∙◌, subst, inl, inr, ⊎_elim, append_assoc, append-nil, arith}
+use Rattle.std.proofs.Common.{◌≡◌, ℕ, ◌+◌, ◌<◌, ◌≤◌, Bool, true, false, not, ◌&&◌, eqb, leb, ◌⊎◌, List, [], ◌∷◌, ◌++◌, length, Some, None, filter, sym, refl, ap, ◌∙◌, subst, inl, inr, ⊎_elim, append-nil, arith}
 use Rattle.std.specs.List.{slice_get, AllByRecursion as All}
-use Rattle.std.proofs.lemmas.List.Elements.{filter-append}
-use Rattle.std.proofs.ByRecursion.{All-append, All-weaker, all_kept_by, kept_by_passes}
-use Rattle.std.proofs.lemmas.Bool.{cases_Bool, cases_eq, cases_lt, false≢true, true≢false, and_parts, and_from, eq-eqb, ne_eqb, eqb-true, eqb-false, not-true, not_from_false, both_ways, le-leb, lt-leb, leb-true, leb-false, or_from, or_left, or_right, or_cases}
-use Rattle.dispatcher.specs.Machine.{Entry, Call, Event, Figures, Terms, State, soonest, sooner, without, due_by, new_entry}
+use Rattle.std.proofs.ByRecursion.{all_kept_by, kept_by_passes}
+use Rattle.std.proofs.lemmas.Bool.{false≢true, true≢false, and_parts, eqb-true, not-true, le-leb, leb-true, or_left, or_right}
+use Rattle.dispatcher.specs.Machine.{Entry, Event, without}
 use Rattle.dispatcher.specs.declared.event.Event.TheVariants.{Asked, Begun, Dispatched, Named, Opened, Posted, Refused, Turned, Warned}
-use Rattle.dispatcher.specs.History.{History, any, count, reaches, answers, is_receipt, turned_to, was_dispatched, is_pending, of_post, at_post}
-use Rattle.dispatcher.proofs.Places.{nth_inside, nth_push_new, nth_push_old, nth_keeps, nth_cases, any_push, any_from, any_place, kept_same, kept_kept, count_cons, count_append, count_kept, countBy_same, countBy_both}
-use Rattle.dispatcher.proofs.Facts.{front, posts, kind, is_lost, passes, IsPosted, posts_push, all_posts, count_posts, old, no_answer, no_reach, no_front, pending_push, kept_push, kept_all, passes_plain}
+use Rattle.dispatcher.specs.History.{History, any, reaches, answers, turned_to, was_dispatched, is_pending}
+use Rattle.dispatcher.proofs.Places.{nth_inside, nth_keeps, nth_cases, any_push, any_from, any_place, kept_same}
+use Rattle.dispatcher.proofs.Facts.{posts, kind, passes, IsPosted, all_posts, old, no_front, pending_push, kept_push, kept_all, passes_plain}
 
 -- the entry f, dispatched at q, was posted before q, and q comes before its deadline turn
 pub record Came {M : Type 0} (h : History M) (q : ℕ) (f : Entry M) : Type 0 where

@@ -1,22 +1,16 @@
 -- The calls turn and question.
-use Rattle.std.proofs.Common.{◌≡◌, ℕ, zero, suc, ◌+◌, ◌-◌, ◌%◌, ◌<◌, ◌≤◌, Bool, true, false, cond, not, ◌&&◌, ◌||◌, eqb, ltb, leb, ◌⊎◌, List, [], ◌∷◌, ◌++◌, map, length, set, Some, None, Ok, Err, count_by, filter, Option, sym, refl, ap, ◌∙◌, subst, inl, inr, ⊎_elim, arith}
-use Rattle.std.specs.List.{AllByRecursion as All}
+use Rattle.std.proofs.Common.{◌≡◌, ℕ, ◌+◌, ◌-◌, ◌%◌, ◌<◌, ◌≤◌, true, false, not, eqb, ltb, List, [], ◌∷◌, ◌++◌, length, None, count_by, filter, sym, refl, ap, ◌∙◌, subst, arith}
 use Rattle.std.proofs.lemmas.List.Filters.{length-filter_both}
 use Rattle.std.proofs.lemmas.List.Sums.{length-filter, count_by-le-length}
 use Rattle.std.proofs.lemmas.List.{length-map, nil_from_length}
 use Rattle.std.proofs.lemmas.Bool.{eq-eqb, ne_eqb, le-ltb, lt-ltb, true≢false}
-use Rattle.banks.specs.declared.cell.Cell.{Cell}
-use Rattle.banks.specs.Trays.{tray_at, held_in}
-use Rattle.dispatcher.specs.declared.entry.Entry.{Entry}
-use Rattle.dispatcher.specs.declared.call.Call.{Call}
-use Rattle.dispatcher.specs.declared.event.Event.{Event}
-use Rattle.dispatcher.specs.declared.entry.Figures.{Figures}
-use Rattle.dispatcher.specs.Machine.{Terms, State, due_at, limit, refusal, act, step, is_empty}
-use Rattle.dispatcher.specs.declared.call.Call.TheVariants.{Ask, Begin, Dispatch, Name, Open, Post, Turn, Warn}
-use Rattle.dispatcher.specs.declared.event.Event.TheVariants.{Asked, Begun, Dispatched, Named, Opened, Posted, Refused, Turned, Warned}
-use Rattle.messages.specs.declared.refusal.Refusal.TheVariants.{AlreadyOpen, CyclesUsedUp, Full, IntervalOutOfRange, LateWaiting, NotNextCycle, OutOfPhase, ReceiptsUsedUp, Shut, StartTooHigh, TooManyServices, UnfitBank}
+use Rattle.banks.specs.Trays.{tray_at}
+use Rattle.dispatcher.specs.Machine.{Terms, State, due_at, limit, step, is_empty}
+use Rattle.dispatcher.specs.declared.call.Call.TheVariants.{Ask, Begin, Turn}
+use Rattle.dispatcher.specs.declared.event.Event.TheVariants.{Asked, Begun, Refused, Turned}
+use Rattle.messages.specs.declared.refusal.Refusal.TheVariants.{CyclesUsedUp, LateWaiting, NotNextCycle, OutOfPhase, Shut}
 use Rattle.dispatcher.specs.Views.{View}
-use Rattle.dispatcher.specs.Shown.{Shows, Agrees, Running, cells, cell_of, state_of}
+use Rattle.dispatcher.specs.Shown.{Shows, cell_of}
 use Rattle.dispatcher.proofs.Keeps.{running_turn}
 use Rattle.dispatcher.proofs.Calling.{accept, refuse, skip, here}
 

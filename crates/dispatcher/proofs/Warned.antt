@@ -1,10 +1,10 @@
 -- The theorem on warnings, at each step.
-use Rattle.std.proofs.Common.{◌≡◌, ℕ, zero, suc, ◌+◌, ◌<◌, ◌≤◌, Bool, true, false, ◌⊎◌, ◌↔◌, List, [], ◌∷◌, ◌++◌, length, take, Some, None, fold, Option, sym, refl, ap, ◌∙◌, subst, inl, inr, ⊎_elim, arith}
+use Rattle.std.proofs.Common.{◌≡◌, ℕ, ◌+◌, ◌≤◌, ◌↔◌, List, [], ◌∷◌, ◌++◌, length, take, Some, None, fold, Option, sym, refl, ap, ◌∙◌, subst, ⊎_elim, arith}
 use Rattle.std.specs.List.{slice_get}
 use Rattle.std.proofs.lemmas.List.{take_at, take-append-le}
 use Rattle.std.proofs.lemmas.List.Sums.{fold_push}
-use Rattle.dispatcher.specs.Machine.{Warning, Entry, Event, Call, Terms, State, Told, told, step, run, start, due_by, first_over, new_entry}
-use Rattle.dispatcher.specs.declared.event.Event.TheVariants.{Asked, Begun, Dispatched, Named, Opened, Posted, Refused, Turned, Warned}
+use Rattle.dispatcher.specs.Machine.{Warning, Entry, Event, Call, Terms, State, Told, told, step, run, start, first_over, new_entry}
+use Rattle.dispatcher.specs.declared.event.Event.TheVariants.{Posted, Warned}
 use Rattle.dispatcher.specs.History.{History, tells, cycle_of, Service, Meets}
 use Rattle.dispatcher.specs.Theorems.{WarningsRight}
 use Rattle.dispatcher.proofs.Places.{nth_inside, nth_cases}

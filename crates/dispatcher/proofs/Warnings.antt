@@ -1,16 +1,14 @@
 -- A warning names none exactly when the services suffice.
-use Rattle.std.proofs.Common.{◌≡◌, ℕ, zero, suc, ◌+◌, ◌-◌, ◌*◌, ◌/◌, ◌%◌, ◌<◌, ◌≤◌, Bool, true, false, cond, not, ◌&&◌, ◌||◌, eqb, ltb, leb, ◌⊎◌, ◌↔◌, List, [], ◌∷◌, ◌++◌, length, take, Some, None, fold, count_by, filter, Option, sym, refl, ap, ◌∙◌, subst, inl, inr, ⊎_elim, mul_comm, arith}
-use Rattle.std.specs.List.{slice_get, AllByRecursion as All}
-use Rattle.std.proofs.lemmas.List.{take_at, take-append-le}
-use Rattle.std.proofs.lemmas.List.Sums.{fold_push}
+use Rattle.std.proofs.Common.{◌≡◌, ℕ, zero, suc, ◌+◌, ◌-◌, ◌*◌, ◌/◌, ◌%◌, ◌<◌, ◌≤◌, Bool, true, false, cond, ◌&&◌, ◌||◌, eqb, ltb, leb, ◌⊎◌, ◌↔◌, List, length, Some, None, Option, sym, refl, ap, ◌∙◌, subst, inl, inr, ⊎_elim, mul_comm, arith}
+use Rattle.std.specs.List.{slice_get}
 use Rattle.std.proofs.lemmas.Nat.{mul-add-lt, div-mul-add, mod-mul-add, div_below, mod_below, div-add-mod'}
-use Rattle.std.proofs.lemmas.Bool.{cases_lt, cases_order, ltb-true, ltb-false, lt-ltb, le-ltb, leb-true, leb-false, le-leb, lt-leb, eq-eqb, eqb-true, and_from, and_parts, or_cases, or_left, or_right, or_from, ne_eqb, not-true, false≢true, true≢false}
-use Rattle.dispatcher.specs.Machine.{Entry, Event, Call, Terms, State, Told, told, step, run, start, due_by, first_over, new_entry}
+use Rattle.std.proofs.lemmas.Bool.{cases_lt, cases_order, ltb-true, ltb-false, lt-ltb, le-ltb, leb-true, le-leb, eq-eqb, eqb-true, and_from, and_parts, or_cases, or_left, or_right, false≢true}
+use Rattle.dispatcher.specs.Machine.{Entry, Event, due_by, first_over}
 use Rattle.dispatcher.specs.declared.event.Event.TheVariants.{Asked, Begun, Dispatched, Named, Opened, Posted, Refused, Turned, Warned}
-use Rattle.dispatcher.specs.History.{History, count, at_post, is_pending, turned_to, tells, cycle_of, PendingAt, Service, Meets}
-use Rattle.dispatcher.proofs.Counts.{count_le, count_same, count_lt, pigeonhole}
-use Rattle.dispatcher.proofs.Places.{nth_inside, nth_push_new, nth_keeps, nth_cases, count_kept}
-use Rattle.dispatcher.proofs.Facts.{posts, kind, count_posts}
+use Rattle.dispatcher.specs.History.{History, count, at_post, is_pending, cycle_of, PendingAt, Service, Meets}
+use Rattle.dispatcher.proofs.Counts.{count_lt, pigeonhole}
+use Rattle.dispatcher.proofs.Places.{nth_inside, count_kept}
+use Rattle.dispatcher.proofs.Facts.{posts, count_posts}
 use Rattle.dispatcher.proofs.Sound.{Sound, pending_parts}
 use Rattle.dispatcher.proofs.Orders.{at_post_true, at_post_from}
 

@@ -1,20 +1,20 @@
 -- All that is known of the machine, at each step; and the theorem on the late count.
-use Rattle.std.proofs.Common.{◌≡◌, ℕ, zero, suc, ◌+◌, ◌<◌, ◌≤◌, Bool, true, false, cond, not, ◌&&◌, ◌||◌, eqb, ltb, leb, ◌⊎◌, List, [], ◌∷◌, ◌++◌, length, Some, None, fold, count_by, filter, Option, sym, refl, ap, ◌∙◌, subst, inl, inr, ⊎_elim, arith}
+use Rattle.std.proofs.Common.{◌≡◌, ℕ, ◌+◌, ◌<◌, ◌≤◌, Bool, true, not, ◌&&◌, leb, List, [], ◌∷◌, ◌++◌, length, Some, None, fold, count_by, filter, Option, sym, refl, ap, ◌∙◌, subst, inl, ⊎_elim, arith}
 use Rattle.std.specs.List.{slice_get, AllByRecursion as All}
-use Rattle.std.proofs.lemmas.Bool.{cases_lt, leb-true, leb-false, le-leb, lt-leb, eq-eqb, eqb-true, and_from, and_parts, not-true, false≢true}
-use Rattle.dispatcher.specs.Machine.{Entry, Event, Call, Terms, State, Told, told, step, run, start, due_by, soonest, without, new_entry}
+use Rattle.std.proofs.lemmas.Bool.{cases_lt, leb-true, eqb-true, and_from, and_parts, false≢true}
+use Rattle.dispatcher.specs.Machine.{Entry, Event, Call, Terms, State, Told, told, step, run, start, due_by, without, new_entry}
 use Rattle.dispatcher.specs.declared.event.Event.TheVariants.{Asked, Begun, Dispatched, Named, Opened, Posted, Refused, Turned, Warned}
-use Rattle.dispatcher.specs.History.{History, count, place, is_some, at_post, of_post, is_pending, own, call_at, call_for, answers, turned_to, was_dispatched, ServiceOrder, Serves, is_late, late_posts}
+use Rattle.dispatcher.specs.History.{History, place, is_some, at_post, is_pending, own, call_at, answers, turned_to, ServiceOrder, Serves, is_late, late_posts}
 use Rattle.dispatcher.specs.Theorems.{LateIsLeast}
 use Rattle.dispatcher.proofs.Counts.{count_le, count_same}
 use Rattle.dispatcher.proofs.Places.{is_some_place, place_at}
 use Rattle.dispatcher.proofs.Moves.{Move, step_moves}
 use Rattle.dispatcher.proofs.Moves.Move.{refusing, opening, posting, idling, serving, turning, unnamed, naming, warning, beginning, asking}
-use Rattle.dispatcher.proofs.Facts.{posts, kind, is_lost, IsPosted, count_posts}
+use Rattle.dispatcher.proofs.Facts.{posts, is_lost, IsPosted, count_posts}
 use Rattle.dispatcher.proofs.Sound.{Sound, Came, sound_plain, sound_open, sound_post, sound_serve, sound_turn, pending_facts, pending_parts}
 use Rattle.std.proofs.ByRecursion.{All-weaker}
 use Rattle.dispatcher.proofs.Lost.{lost_plain, lost_post, lost_serve, lost_turn}
-use Rattle.dispatcher.proofs.Orders.{Least, open_by, unserved, at_post_true, at_post_from, least_other, least_post, least_turn, least_serve}
+use Rattle.dispatcher.proofs.Orders.{Least, open_by, at_post_true, at_post_from, least_other, least_post, least_turn, least_serve}
 use Rattle.dispatcher.proofs.Soonest.{all_nth, soonest_at, due_less, due_one}
 
 pub record Known {M : Type 0} (s : State M) (h : History M) : Type 0 where

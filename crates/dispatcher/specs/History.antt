@@ -1,7 +1,7 @@
 -- What is said of a history: a list of calls with their answers, the latest last. A position counts from 0.
-use Rattle.std.specs.Prelude.{◌≡◌, ℕ, zero, suc, ◌+◌, ◌*◌, ◌<◌, ◌≤◌, Bool, true, false, cond, not, ◌&&◌, ◌||◌, List, [], ◌∷◌, ◌++◌, length, Some, None, fold, count_by, Option, ◌==◌, nat_eq, nat_le}
+use Rattle.std.specs.Prelude.{◌≡◌, ℕ, zero, suc, ◌+◌, ◌<◌, ◌≤◌, Bool, true, false, cond, not, ◌&&◌, ◌||◌, List, [], ◌∷◌, length, Some, None, fold, count_by, Option, ◌==◌, nat_eq, nat_le}
 use Rattle.std.specs.List.{slice_get}
-use Rattle.dispatcher.specs.Machine.{Entry, Call, Event, Figures}
+use Rattle.dispatcher.specs.Machine.{Entry, Event}
 use Rattle.dispatcher.specs.declared.event.Event.TheVariants.{Asked, Begun, Dispatched, Named, Opened, Posted, Refused, Turned, Warned}
 
 abbrev pub History : Type 0 → Type 0

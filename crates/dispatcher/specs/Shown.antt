@@ -1,5 +1,5 @@
 -- When a dispatcher, seen as its numbers and its trays, shows a state of the machine.
-use Rattle.std.specs.Prelude.{◌≡◌, ℕ, ◌+◌, ◌-◌, ◌%◌, ◌<◌, ◌≤◌, Bool, true, false, List, [], ◌∷◌, ◌++◌, map, length, filter, nat_lt}
+use Rattle.std.specs.Prelude.{◌≡◌, ℕ, ◌+◌, ◌-◌, ◌%◌, ◌<◌, ◌≤◌, true, false, List, [], ◌∷◌, map, length, filter, nat_lt}
 use Rattle.std.specs.List.{AllByRecursion as All}
 use Rattle.banks.specs.declared.cell.Cell.{Cell}
 use Rattle.banks.specs.Trays.{tray_at, held_in}

@@ -1,5 +1,5 @@
 -- What the dispatcher's calls answer and leave, in the machine's terms.
-use Rattle.std.specs.Prelude.{◌≡◌, ℕ, ◌-◌, Bool, true, false, List, [], ◌∷◌, ◌++◌, length, Ok, Err, Option, Result, nat_lt}
+use Rattle.std.specs.Prelude.{◌≡◌, ℕ, ◌-◌, true, List, length, Ok, Err, Option, Result, nat_lt}
 use Rattle.banks.specs.declared.bank.Trays
 use Rattle.messages.specs.declared.message.Message
 use Rattle.messages.specs.declared.message.Timed
@@ -7,7 +7,7 @@ use Rattle.banks.specs.declared.cell.Cell.{Cell}
 use Rattle.banks.specs.Trays.{held_in}
 use Rattle.messages.specs.declared.refusal.Refusal.{Refusal}
 use Rattle.dispatcher.specs.declared.dispatcher.Dispatcher.{Dispatcher}
-use Rattle.dispatcher.specs.Machine.{Call, Entry, Event, State, Terms, Warning, first_over, start, step}
+use Rattle.dispatcher.specs.Machine.{Call, Event, State, Terms, Warning, first_over, start, step}
 use Rattle.dispatcher.specs.Shown.{Shows}
 use Rattle.dispatcher.specs.Views.{View, view}
 

@@ -1,7 +1,7 @@
 use Rattle.std.specs.Prelude.{◌≡◌, ℕ, ◌+◌, ◌≤◌, true, false, ◌↔◌, List, ◌++◌, map, take, Some, None, Option}
-use Rattle.dispatcher.specs.Machine.{Call, Entry, State, Terms, Told, Warning, call_of, run}
+use Rattle.dispatcher.specs.Machine.{Call, Entry, Terms, Told, Warning, call_of, run}
 use Rattle.std.specs.List.{slice_get}
-use Rattle.dispatcher.specs.declared.event.Event.TheVariants.{Asked, Begun, Dispatched, Named, Opened, Posted, Refused, Turned, Warned}
+use Rattle.dispatcher.specs.declared.event.Event.TheVariants.{Dispatched, Named, Posted, Warned}
 use Rattle.dispatcher.specs.History.{History, ServiceOrder, late_posts, own, Service, Meets, dispatches, namings, lying, DispatchedInTime, NamedAfterTurn, Lies}
 
 -- The history is of the calls that were made, in their order; and what has happened stays as it was when more calls come.

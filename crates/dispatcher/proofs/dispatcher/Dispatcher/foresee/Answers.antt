@@ -1,4 +1,4 @@
-use Rattle.std.proofs.Common.{◌+◌, ◌*◌, ◌<◌, ◌≤◌, arith}
+use Rattle.std.proofs.Common.{arith}
 use Rattle.dispatcher.proofs.Foreseeing.{counted_none, counted_found, counted_more, counted_all, none_due, due_sum}
 use Rattle.dispatcher.proofs.dispatcher.Dispatcher.foresee.Goals as goal
 
@@ -12,14 +12,14 @@ returns-then-due-services g c b m s o =
     let d = c.args.self.now in
     let l = c.loop-ahead in
     let inv = l.invariant b m s o in
-    counted_found c.args.services d.cycle d.span m.pending l.ahead l.due (omega arith) (omega arith) inv c.saturating-add-due.result (due_sum b _ m s o c.args.services l.ahead l.due c.count.result c.saturating-add-due.result (omega arith) (omega arith) inv c.count.ensures (λ h. omega arith)) c.if-due-services.true
+    counted_found c.args.services d.cycle d.span m.pending l.ahead l.due (omega arith) (omega arith) inv c.saturating_add-due.result (due_sum b _ m s o c.args.services l.ahead l.due c.count.result c.saturating_add-due.result (omega arith) (omega arith) inv c.count.ensures (λ h. omega arith)) c.if-due-services.true
 
 pub loop-ahead-preserved : goal.loop-ahead-preserved
 loop-ahead-preserved g c b m s o =
     let d = c.args.self.now in
     let l = c.loop-ahead in
     let inv = l.invariant b m s o in
-    counted_more c.args.services d.cycle d.span m.pending l.ahead l.due (omega arith) (omega arith) inv c.saturating-add-due.result (due_sum b _ m s o c.args.services l.ahead l.due c.count.result c.saturating-add-due.result (omega arith) (omega arith) inv c.count.ensures (λ h. omega arith)) c.if-due-services.false
+    counted_more c.args.services d.cycle d.span m.pending l.ahead l.due (omega arith) (omega arith) inv c.saturating_add-due.result (due_sum b _ m s o c.args.services l.ahead l.due c.count.result c.saturating_add-due.result (omega arith) (omega arith) inv c.count.ensures (λ h. omega arith)) c.if-due-services.false
 
 pub returns : goal.returns
 returns g c b m s o =

@@ -1,8 +1,8 @@
-use Rattle.std.proofs.Common.{◌≡◌, ℕ, ◌+◌, ◌-◌, ◌%◌, ◌<◌, ◌≤◌, ◌⊎◌, Ok, Err, sym, refl, ap, subst, inl, inr, arith}
+use Rattle.std.proofs.Common.{◌≡◌, ◌+◌, ◌%◌, ◌<◌, ◌⊎◌, sym, refl, subst, inl, inr, arith}
 use Rattle.dispatcher.specs.Machine.{step}
-use Rattle.dispatcher.specs.declared.call.Call.TheVariants.{Ask, Begin, Dispatch, Name, Open, Post, Turn, Warn}
-use Rattle.dispatcher.specs.declared.event.Event.TheVariants.{Asked, Begun, Dispatched, Named, Opened, Posted, Refused, Turned, Warned}
-use Rattle.messages.specs.declared.refusal.Refusal.TheVariants.{AlreadyOpen, CyclesUsedUp, Full, IntervalOutOfRange, LateWaiting, NotNextCycle, OutOfPhase, ReceiptsUsedUp, Shut, StartTooHigh, TooManyServices, UnfitBank}
+use Rattle.dispatcher.specs.declared.call.Call.TheVariants.{Post}
+use Rattle.dispatcher.specs.declared.event.Event.TheVariants.{Refused}
+use Rattle.messages.specs.declared.refusal.Refusal.TheVariants.{Full}
 use Rattle.dispatcher.specs.Views.{view}
 use Rattle.dispatcher.specs.Shown.{Shows}
 use Rattle.dispatcher.proofs.SameBank.{same_bank}
@@ -33,7 +33,7 @@ returns-in-Ok g c =
       steps = λ b m s.
           let o = c.if-not-self.false in
           let p = put_placed g.B.Trays.trays g.B.Trays.tray_limit g.B.Trays.total_limit d.bank c.put.new.self k (record { receipt = d.receipt; message = c.args.message }) c.in-Ok.field-0 c.in-Ok.ensures (inside (s.agrees.running o) (d.cycle + i)) in
-          posts b _ m s c.args.message i (g.B.Trays.trays c.put.new.self) (g.B.Trays.tray_limit c.put.new.self) (g.B.Trays.total_limit c.put.new.self) c.saturating-add-self.result o (sym c.interval-interval.ensures) (omega arith) c.if-interval-self.false c.if-self-ge-LIMIT.false p.0.0 p.0.1 p.1 c.put.ensures.limits.0 c.put.ensures.limits.1 (λ l. omega arith);
+          posts b _ m s c.args.message i (g.B.Trays.trays c.put.new.self) (g.B.Trays.tray_limit c.put.new.self) (g.B.Trays.total_limit c.put.new.self) c.saturating_add-self.result o (sym c.interval-interval.ensures) (omega arith) c.if-interval-self.false c.if-self-ge-LIMIT.false p.0.0 p.0.1 p.1 c.put.ensures.limits.0 c.put.ensures.limits.1 (λ l. omega arith);
       same = λ f. absurd f;
     }
 

@@ -1,4 +1,4 @@
-use Rattle.std.proofs.Common.{◌≡◌, ◌+◌, ◌%◌, ◌<◌, ◌≤◌, refl, arith}
+use Rattle.std.proofs.Common.{refl, arith}
 use Rattle.dispatcher.proofs.SameBank.{same_bank}
 use Rattle.dispatcher.proofs.Turning.{turn_waiting, turn_not_next, turn_last, turns}
 use Rattle.dispatcher.proofs.dispatcher.Dispatcher.turn.Goals as goal
@@ -18,6 +18,6 @@ returns-then-cycle-gt-LIMIT g c =
 pub returns : goal.returns
 returns g c =
     record {
-      steps = λ b m s. turns b _ m s c.if-not-self.false c.args.cycle c.count-late.result c.saturating-add-self.result (omega arith) c.if-cycle-self.false c.if-cycle-gt-LIMIT.false c.count-late.ensures (λ l. omega arith);
+      steps = λ b m s. turns b _ m s c.if-not-self.false c.args.cycle c.count-late.result c.saturating_add-self.result (omega arith) c.if-cycle-self.false c.if-cycle-gt-LIMIT.false c.count-late.ensures (λ l. omega arith);
       same = λ f. absurd f;
     }

@@ -1,14 +1,13 @@
-use Rattle.std.proofs.Common.{◌≡◌, ◌+◌, List, [], ◌∷◌, ◌++◌, take, vec_items, sym, refl, ap, ◌∙◌, subst, arith}
+use Rattle.std.proofs.Common.{◌≡◌, ◌+◌, [], ◌∷◌, ◌++◌, take, vec_items, sym, ap, ◌∙◌, subst, arith}
 use Rattle.std.proofs.lemmas.List.{take_all, take_more}
 use Rattle.std.proofs.lemmas.Result.{IfOk-from_err}
-use Rattle.dispatcher.specs.Machine.{Event}
 use Rattle.dispatcher.specs.Steps.{terms}
 use Rattle.dispatcher.specs.Views.{View, view}
 use Rattle.dispatcher.proofs.RealRuns.{Both, both_length, both_more, both_none, follows_calls, follows_obeys}
 use Rattle.dispatcher.proofs.dispatcher.running.run.Goals as goal
 
-pub returns-in-err-push : goal.returns-in-err-push
-returns-in-err-push g c = IfOk-from_err c.from-residual.result _ c.from-residual.ensures.0
+pub returns-in_err-push : goal.returns-in_err-push
+returns-in_err-push g c = IfOk-from_err c.from_residual.result _ c.from_residual.ensures.0
 
 pub loop-call-init : goal.loop-call-init
 loop-call-init g c b s = both_none b _ _ s c.new-events.ensures.items
@@ -24,7 +23,7 @@ loop-call-preserved g c b s =
     let v : View g.row.B-Item.Denot = view g.B.Trays.trays g.B.Trays.tray_limit g.B.Trays.total_limit g.B.Item.Timed.interval l.dispatcher in
     let w : View g.row.B-Item.Denot = view g.B.Trays.trays g.B.Trays.tray_limit g.B.Trays.total_limit g.B.Item.Timed.interval c.perform.new.self in
     subst (λ cs. Both b w cs (vec_items c.push.new.self)) (sym more)
-    (subst (Both b w (so_far ++ call ∷ [])) (sym c.in-ok-push.ensures.items)
+    (subst (Both b w (so_far ++ call ∷ [])) (sym c.in_ok-push.ensures.items)
     (both_more b v w so_far (vec_items l.events) call c.perform.result (l.invariant b s) c.perform.ensures.steps))
 
 pub returns : goal.returns
