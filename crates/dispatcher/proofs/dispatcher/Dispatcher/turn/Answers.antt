@@ -18,6 +18,6 @@ returns-then-cycle-gt-LIMIT g c =
 pub returns : goal.returns
 returns g c =
     record {
-      steps = λ b m s. turns b _ m s c.if-not-self.false c.args.cycle c.count-late.result c.saturating_add-self.result (omega arith) c.if-cycle-self.false c.if-cycle-gt-LIMIT.false c.count-late.ensures (λ l. omega arith);
+      steps = λ b m s. turns b _ m s c.if-not-self.false c.args.cycle c.count-late.result _ (omega arith) c.if-cycle-self.false c.if-cycle-gt-LIMIT.false c.count-late.ensures (λ l. omega arith);
       same = λ f. absurd f;
     }
