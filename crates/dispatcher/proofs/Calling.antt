@@ -149,3 +149,15 @@ module _ {M : Type 0} (b : Terms M) (v : View M) (m : State M) (s : Shows b v m)
       (skip (not v.is_open) Shut _ (ap not o)
       ∙ here (eqb (b.interval x) 0 || ltb b.span (b.interval x)) IntervalOutOfRange _
       (⊎_elim (λ (l : i ≡ 0). or_left _ _ (eq-eqb (b.interval x) 0 (omega arith))) (λ (l : v.span < i). or_right _ _ (lt-ltb b.span (b.interval x) (omega arith))) h))
+
+  pub post_used_up : (x : M) (i : ℕ) → v.is_open ≡ true → v.interval x ≡ i → 0 < i → i ≤ v.span → limit ≤ v.next → ((step b m (Post x)).0 ≡ Refused (Post x) ReceiptsUsedUp) × Shows b v (step b m (Post x)).1
+  post_used_up x i o e low high used =
+      let a = s.agrees in
+      let sp = a.span in
+      let tr = (a.running o).trays in
+      let j = a.interval x in
+      let fw = a.few in
+      refuse b v m (Post x) s ReceiptsUsedUp
+      (skip (not v.is_open) Shut _ (ap not o)
+      ∙ skip (eqb (b.interval x) 0 || ltb b.span (b.interval x)) IntervalOutOfRange _ (or_from _ _ (ne_eqb (b.interval x) 0 (λ k. omega arith)) (le-ltb b.span (b.interval x) (omega arith)))
+      ∙ here (eqb v.next limit) ReceiptsUsedUp _ (eq-eqb v.next limit (omega arith)))

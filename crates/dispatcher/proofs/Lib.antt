@@ -11,14 +11,16 @@ mod Moves
 mod Once
 mod Orders
 mod Places
+mod Placed
 mod Placing
 mod Putting
 mod Queues
-mod RealRuns
+pub mod RealRuns
 mod Rings
 mod SameBank
 mod Soonest
 mod Sound
+mod Tallies
 mod Turning
 mod Warned
 mod Warnings

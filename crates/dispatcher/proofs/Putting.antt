@@ -2,6 +2,7 @@
 use Rattle.std.proofs.Common.{◌≡◌, ℕ, ◌<◌, ◌≤◌, ◌⊎◌, List, [], ◌∷◌, ◌++◌, length, set, Ok, Err, inl, inr, ⊎_elim, arith}
 use Rattle.std.proofs.lemmas.Bool.{cases_lt}
 use Rattle.messages.specs.declared.refusal.Refusal.{Refusal}
+use Rattle.banks.proofs.Holding.{empty_room}
 use Rattle.banks.specs.Trays.{tray_at, held_in, HasRoom, NoRoom, Puts}
 
 module _ {B C : Type 0} (trays : B → List (List C)) (each all : B → ℕ) (before after : B) (k : ℕ) (c : C) where
@@ -30,3 +31,9 @@ module _ {B C : Type 0} (trays : B → List (List C)) (each all : B → ℕ) (be
   put_placed u p l =
       ⊎_elim (λ (n : NoRoom (trays before) k (each before) (all before)). absurd (let q = (p.full l n).0 in let z : ◌≡◌ {A = ℕ} 0 1 = cc in omega arith))
       (λ (h : HasRoom (trays before) k (each before) (all before)). (h, (p.placed l h).1)) rooms
+
+-- where nothing lies and neither limit is 0, there is room
+pub empty_has_room : {C : Type 0} (ts : List (List C)) (k each all : ℕ) → held_in ts ≡ 0 → (0 < each) × (0 < all) → NoRoom ts k each all → ⊥
+empty_has_room ts k each all h l n =
+    let r = empty_room ts k each all h l in
+    ⊎_elim (λ (x : each ≤ length (tray_at ts k)). omega (arith, r.0)) (λ (x : all ≤ held_in ts). omega (arith, r.1)) n

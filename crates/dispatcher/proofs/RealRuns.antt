@@ -1,5 +1,5 @@
 -- From the laws of the machine to those of the dispatcher that shows it.
-use Rattle.std.proofs.Common.{◌≡◌, ℕ, ◌+◌, ◌<◌, ◌≤◌, true, false, List, [], ◌∷◌, ◌++◌, map, length, Some, sym, refl, ap, ◌∙◌, subst, inl, inr, ⊎_elim, arith}
+use Rattle.std.proofs.Common.{◌≡◌, ℕ, ◌+◌, ◌<◌, ◌≤◌, true, false, List, [], ◌∷◌, ◌++◌, map, length, Some, sym, refl, ap, ◌∙◌, subst, inl, inr, ⊎_elim, arith, take}
 use Rattle.std.specs.List.{slice_get}
 use Rattle.std.proofs.lemmas.List.Sums.{fold_push}
 use Rattle.std.proofs.lemmas.List.{length-map, length_push, take_all, take-append-le}
@@ -10,12 +10,15 @@ use Rattle.dispatcher.specs.History.{History, dispatches, namings}
 use Rattle.dispatcher.specs.Machine.{Call, Entry, Event, State, Terms, Told, call_of, run, start, step, told}
 use Rattle.dispatcher.specs.Shown.{Shows}
 use Rattle.dispatcher.specs.Steps.{Simulates}
+use Rattle.dispatcher.specs.Theorems.{WarningsLeast}
 use Rattle.dispatcher.specs.Views.{View}
-use Rattle.dispatcher.specs.WholeRuns.{CarriesOn, Led, Obeyed, Obeys, lying_in}
+use Rattle.dispatcher.specs.WholeRuns.{Accounted, Accounts, AccountsNext, CarriesOn, Led, Obeyed, Obeys, lying_in}
 use Rattle.dispatcher.proofs.Calls.{is_of_calls}
 use Rattle.dispatcher.proofs.Lying.{trays_lying}
 use Rattle.dispatcher.proofs.Once.{each_once}
-use Rattle.dispatcher.proofs.Warned.{warnings_right}
+use Rattle.dispatcher.proofs.Placed.{in_its_tray}
+use Rattle.dispatcher.proofs.Tallies.{tallied}
+use Rattle.dispatcher.proofs.Warned.{warnings_least, warnings_right}
 use Rattle.dispatcher.proofs.Whole.{known, late_is_least}
 
 module _ {M : Type 0} (b : Terms M) where
@@ -63,6 +66,18 @@ module _ {M : Type 0} (b : Terms M) where
   pub follows_obeys : (v : View M) (calls : List (Call M)) (h : History M) → Led b v calls h → Obeys h v.late v.trays
   follows_obeys v calls h f = subst (λ x. Obeys x v.late v.trays) f.answered (obeys v calls f.shows)
 
+  accounts : (v : View M) (calls : List (Call M)) → Shows b v (run b calls).state → Accounts (run b calls).history v
+  accounts v calls s =
+      record {
+        warnings_least = subst (λ n. WarningsLeast n (run b calls).history) s.agrees.span (warnings_least b calls);
+        in_its_tray = λ o. in_its_tray b calls v.trays v.span v.cycle v.next (s.agrees.running o);
+        accepted = ap (λ (x : State M). x.accepted) (sym s.numbers) ∙ (tallied b calls).accepted;
+        dispatched = ap (λ (x : State M). x.dispatched) (sym s.numbers) ∙ (tallied b calls).dispatched;
+      }
+
+  pub follows_accounts : (v : View M) (calls : List (Call M)) (h : History M) → Led b v calls h → Accounts h v
+  follows_accounts v calls h f = subst (λ x. Accounts x v) f.answered (accounts v calls f.shows)
+
   pub follows_calls : (v : View M) (calls : List (Call M)) (h : History M) → Led b v calls h → map call_of h ≡ calls
   follows_calls v calls h f = ap (map call_of) (sym f.answered) ∙ (is_of_calls b calls).same_calls
 
@@ -87,21 +102,67 @@ module _ {M : Type 0} where
       (λ (more : length h < k). let n = length_push h a in now_obeyed (h ++ a ∷ []) late ts k (omega arith) o)
       (⊎_elim (λ (x : length h < k). inr x) (λ (x : k ≤ length h). inl x) (cases_lt (length h) k))
 
--- both at once
+-- every call so far led to a dispatcher with which all was accounted for
+abbrev pub AccountedTo : {M : Type 0} → Terms M → List (Call M) → History M → Type 0
+AccountedTo b calls h = (k : ℕ) → k ≤ length calls → Accounted b calls h k
+
+module _ {M : Type 0} (b : Terms M) where
+  led_length : (v : View M) (cs : List (Call M)) (h : History M) → Led b v cs h → length h ≡ length cs
+  led_length v cs h f = sym (length-map h call_of) ∙ ap length (follows_calls b v cs h f)
+
+  -- where all calls are among the first k
+  accounted_now : (v : View M) (cs : List (Call M)) (h : History M) (k : ℕ) → length cs ≤ k → Led b v cs h → Accounted b cs h k
+  accounted_now v cs h k l f =
+      let n = led_length v cs h f in
+      let e = sym (take_all k cs l) in
+      let g = sym (take_all k h (omega arith)) in
+      record {
+        seen = v;
+        led = subst (λ x. Led b v x (take k h)) e (subst (Led b v cs) g f);
+        law = subst (λ x. Obeys x v.late v.trays) g (follows_obeys b v cs h f);
+        accounts = subst (λ x. Accounts x v) g (follows_accounts b v cs h f);
+      }
+
+  -- what the first k calls led to, where more have come since
+  accounted_still : (cs : List (Call M)) (h : History M) (c : Call M) (a : Event M) (k : ℕ) → k ≤ length cs → k ≤ length h → Accounted b cs h k → Accounted b (cs ++ c ∷ []) (h ++ a ∷ []) k
+  accounted_still cs h c a k l n x =
+      let e = sym (take-append-le k cs (c ∷ []) l) in
+      let g = sym (take-append-le k h (a ∷ []) n) in
+      record {
+        seen = x.seen;
+        led = subst (λ y. Led b x.seen y (take k (h ++ a ∷ []))) e (subst (Led b x.seen (take k cs)) g x.led);
+        law = subst (λ y. Obeys y x.seen.late x.seen.trays) g x.law;
+        accounts = subst (λ y. Accounts y x.seen) g x.accounts;
+      }
+
+  accounted_none : (v : View M) → Led b v [] [] → AccountedTo b [] []
+  accounted_none v f k l = accounted_now v [] [] k (omega arith) f
+
+  accounted_more : (v w : View M) (cs : List (Call M)) (h : History M) (c : Call M) (a : Event M) → Led b v cs h → Led b w (cs ++ c ∷ []) (h ++ a ∷ []) → AccountedTo b cs h → AccountedTo b (cs ++ c ∷ []) (h ++ a ∷ [])
+  accounted_more v w cs h c a f g old i l =
+      let n = led_length v cs h f in
+      let m = length_push cs c in
+      ⊎_elim
+      (λ (less : i < length cs + 1). accounted_still cs h c a i (omega arith) (omega arith) (old i (omega arith)))
+      (λ (more : length cs + 1 ≤ i). accounted_now w (cs ++ c ∷ []) (h ++ a ∷ []) i (omega arith) g)
+      (cases_lt i (length cs + 1))
+
+-- all at once
 pub record Both {M : Type 0} (b : Terms M) (v : View M) (calls : List (Call M)) (h : History M) : Type 0 where
   pub follows : Led b v calls h
   pub obeyed : ObeyedTo h
+  pub accounted : AccountedTo b calls h
 
 module _ {M : Type 0} (b : Terms M) where
   pub both_none : (v : View M) (h : History M) → Shows b v start → h ≡ [] → Both b v [] h
   both_none v h s e =
       let f : Led b v [] [] = record { answered = refl; shows = s } in
-      subst (Both b v []) (sym e) (record { follows = f; obeyed = obeyed_none v.late v.trays (follows_obeys b v [] [] f) })
+      subst (Both b v []) (sym e) (record { follows = f; obeyed = obeyed_none v.late v.trays (follows_obeys b v [] [] f); accounted = accounted_none b v f })
 
   pub both_more : (v w : View M) (cs : List (Call M)) (h : History M) (c : Call M) (a : Event M) → Both b v cs h → Simulates v w c a → Both b w (cs ++ c ∷ []) (h ++ a ∷ [])
   both_more v w cs h c a x k =
       let f = follows_more b v w cs h c a x.follows k in
-      record { follows = f; obeyed = obeyed_more h a w.late w.trays x.obeyed (follows_obeys b w (cs ++ c ∷ []) (h ++ a ∷ []) f) }
+      record { follows = f; obeyed = obeyed_more h a w.late w.trays x.obeyed (follows_obeys b w (cs ++ c ∷ []) (h ++ a ∷ []) f); accounted = accounted_more b v w cs h c a x.follows f x.accounted }
 
   pub both_length : (v : View M) (cs : List (Call M)) (h : History M) → Both b v cs h → length h ≡ length cs
   both_length v cs h x = sym (length-map h call_of) ∙ ap length (follows_calls b v cs h x.follows)
@@ -110,3 +171,6 @@ module _ {M : Type 0} (b : Terms M) where
 pub carries_on : {M : Type 0} (v w : View M) (c : Call M) (a : Event M) → Simulates v w c a → CarriesOn v w c a
 carries_on v w c a k b cs h f =
     let g = follows_more b v w cs h c a f k in (g, follows_obeys b w (cs ++ c ∷ []) (h ++ a ∷ []) g)
+
+pub accounts_on : {M : Type 0} (v w : View M) (c : Call M) (a : Event M) → Simulates v w c a → AccountsNext v w c a
+accounts_on v w c a k b cs h f = follows_accounts b w (cs ++ c ∷ []) (h ++ a ∷ []) (follows_more b v w cs h c a f k)

@@ -3,9 +3,10 @@ use Rattle.std.proofs.Common.{◌≡◌, ℕ, zero, suc, ◌+◌, ◌-◌, ◌*�
 use Rattle.std.specs.List.{slice_get}
 use Rattle.std.proofs.lemmas.Nat.{mul-add-lt, div-mul-add, mod-mul-add, div_below, mod_below, div-add-mod'}
 use Rattle.std.proofs.lemmas.Bool.{cases_lt, cases_order, ltb-true, ltb-false, lt-ltb, le-ltb, leb-true, le-leb, eq-eqb, eqb-true, and_from, and_parts, or_cases, or_left, or_right, false≢true}
-use Rattle.dispatcher.specs.Machine.{Entry, Event, due_by, first_over}
+use Rattle.dispatcher.specs.Machine.{Entry, Event, Warning, due_by, first_over}
 use Rattle.dispatcher.specs.declared.event.Event.TheVariants.{Asked, Begun, Dispatched, Named, Opened, Posted, Refused, Turned, Warned}
-use Rattle.dispatcher.specs.History.{History, count, at_post, is_pending, cycle_of, PendingAt, Service, Meets}
+use Rattle.dispatcher.specs.History.{History, count, at_post, is_pending, cycle_of, due_within, PendingAt, Service, Meets}
+use Rattle.dispatcher.specs.Theorems.{NamesLeast}
 use Rattle.dispatcher.proofs.Counts.{count_lt, pigeonhole}
 use Rattle.dispatcher.proofs.Places.{nth_inside, count_kept}
 use Rattle.dispatcher.proofs.Facts.{posts, count_posts}
@@ -25,6 +26,32 @@ module _ {M : Type 0} (c z : ℕ) (es : List (Entry M)) where
   pub none_first : (left f : ℕ) → ((i : ℕ) → f ≤ i → i < f + left → due_by (z + i) es ≤ c * i) → first_over c z es f left ≡ None
   none_first zero f h = refl
   none_first (suc left) f h = rw (le-ltb (c * f) (due_by (z + f) es) (h f (omega arith) (omega arith))) (none_first left (suc f) (λ i l k. h i (omega arith) (omega arith)))
+
+-- what the search found: the first number with too many due
+pub record Found {M : Type 0} (c z : ℕ) (es : List (Entry M)) (f left : ℕ) (a : Warning) : Type 0 where
+  pub low : f ≤ a.ahead
+  pub high : a.ahead < f + left
+  pub load : a.load ≡ due_by (z + a.ahead) es
+  pub over : c * a.ahead < a.load
+  pub first : (i : ℕ) → f ≤ i → i < a.ahead → due_by (z + i) es ≤ c * i
+
+pub first_some : {M : Type 0} (c z : ℕ) (es : List (Entry M)) (left f : ℕ) (a : Warning) → first_over c z es f left ≡ Some a → Found c z es f left a
+first_some c z es zero f a e = absurd (let x : ◌≡◌ {A = ℕ} 0 1 = cc in omega arith)
+first_some {M} c z es (suc left) f a e = go (ltb (c * f) (due_by (z + f) es)) refl e (first_some c z es left (suc f) a)
+  where
+    go : (t : Bool) → ltb (c * f) (due_by (z + f) es) ≡ t → cond t (Some (record { ahead = f; load = due_by (z + f) es })) (first_over c z es (suc f) left) ≡ Some a → (first_over c z es (suc f) left ≡ Some a → Found c z es (suc f) left a) → Found c z es f (suc left) a
+    go true m e ih =
+        let k : record { ahead = f; load = due_by (z + f) es } ≡ a = cc in
+        subst (Found c z es f (suc left)) k (record { low = omega arith; high = omega arith; load = refl; over = ltb-true (c * f) (due_by (z + f) es) m; first = λ i l h. absurd (omega arith) })
+    go false m e ih =
+        let x = ih e in
+        record {
+          low = (let l = x.low in omega arith);
+          high = (let l = x.high in omega arith);
+          load = x.load;
+          over = x.over;
+          first = λ i l h. ⊎_elim (λ q. subst (λ y. due_by (z + y) es ≤ c * y) q (ltb-false (c * f) (due_by (z + f) es) m)) (⊎_elim (λ q. x.first i (omega arith) h) (λ q. absurd (omega arith))) (cases_order f i);
+        }
 
 -- the deadline of the post at a position
 abbrev pub deadline_of : {M : Type 0} → Option (Event M) → ℕ
@@ -203,3 +230,17 @@ module _ {M : Type 0} {o : Bool} {z n : ℕ} {P : List (Entry M)} {h : History M
     -- the warning's search finds nothing exactly when the services suffice
     pub warns : (first_over c z P 1 span ≡ None) ↔ ((plan : ℕ → Service) × Meets h c plan)
     warns = (λ e. enough (first_none c z P span 1 e), λ m. none_first c z P span 1 (λ i l k. suffices c clock m.0 m.1 i))
+
+  -- what the warning's search finds is the least number of cycles with too many posts due within them
+  pub names_least : (c N : ℕ) → z ≡ cycle_of h → (a : Warning) → first_over c z P 1 N ≡ Some a → NamesLeast h N c a
+  unfolding pends_by
+  names_least c N clock a e =
+      let x = first_some c z P N 1 a e in
+      let within : (f : ℕ) → due_by (z + f) P ≡ due_within h f = λ f. due_count (z + f) ∙ ap (λ y. count (λ p. at_post (λ e. is_pending h e && leb e.deadline (y + f)) (slice_get h p)) (length h)) clock in
+      record {
+        some_ahead = x.low;
+        within = (let l = x.high in omega arith);
+        load = x.load ∙ within a.ahead;
+        too_many = x.over;
+        least = λ f l m. let y = x.first f l m in let k = within f in omega arith;
+      }

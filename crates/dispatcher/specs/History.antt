@@ -157,6 +157,10 @@ pub record Meets {M : Type 0} (h : History M) (c : ℕ) (plan : ℕ → Service)
   pub offered : (p : ℕ) (e : Entry M) → PendingAt h p e → (plan p).number < c
   pub its_own : (p p' : ℕ) (e e' : Entry M) → PendingAt h p e → PendingAt h p' e' → (plan p).cycle ≡ (plan p').cycle → (plan p).number ≡ (plan p').number → p ≡ p'
 
+-- how many pending posts are due within f cycles
+abbrev pub due_within : {M : Type 0} → History M → ℕ → ℕ
+due_within h f = count (λ p. at_post (λ e. is_pending h e && nat_le e.deadline (cycle_of h + f)) (slice_get h p)) (length h)
+
 -- a naming that answered the receipt r
 abbrev pub names : {M : Type 0} → ℕ → Event M → Bool
 names r (Refused c k) = false
@@ -178,6 +182,21 @@ namings h r = count_by (names r) h
 
 abbrev pub lying : {M : Type 0} → List (Entry M) → ℕ → ℕ
 lying es r = count_by (λ e. nat_eq e.receipt r) es
+
+-- an accepted post, and a dispatch that gave an entry out
+abbrev pub is_post : {M : Type 0} → Event M → Bool
+is_post v = of_post (λ _. true) v
+
+abbrev pub gives_out : {M : Type 0} → Event M → Bool
+gives_out (Refused c k) = false
+gives_out (Opened z f) = false
+gives_out (Posted e) = false
+gives_out (Dispatched o) = is_some o
+gives_out (Turned t n) = false
+gives_out (Named o) = false
+gives_out (Warned c o) = false
+gives_out (Asked g) = false
+gives_out Begun = false
 
 -- The entry f, dispatched at q, was posted before, and q comes before each accepted turn told its deadline or later.
 pub record DispatchedInTime {M : Type 0} (h : History M) (q : ℕ) (f : Entry M) : Type 0 where

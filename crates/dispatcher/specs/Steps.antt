@@ -1,5 +1,5 @@
 -- What the dispatcher's calls answer and leave, in the machine's terms.
-use Rattle.std.specs.Prelude.{◌≡◌, ℕ, ◌-◌, true, List, length, Ok, Err, Option, Result, nat_lt}
+use Rattle.std.specs.Prelude.{◌≡◌, ℕ, ◌+◌, ◌-◌, ◌<◌, ◌≤◌, true, List, length, Ok, Err, Option, Result, nat_lt}
 use Rattle.banks.specs.declared.bank.Trays
 use Rattle.messages.specs.declared.message.Message
 use Rattle.messages.specs.declared.message.Timed
@@ -7,7 +7,8 @@ use Rattle.banks.specs.declared.cell.Cell.{Cell}
 use Rattle.banks.specs.Trays.{held_in}
 use Rattle.messages.specs.declared.refusal.Refusal.{Refusal}
 use Rattle.dispatcher.specs.declared.dispatcher.Dispatcher.{Dispatcher}
-use Rattle.dispatcher.specs.Machine.{Call, Event, State, Terms, Warning, first_over, start, step}
+use Rattle.dispatcher.specs.declared.entry.Slip.{Slip}
+use Rattle.dispatcher.specs.Machine.{Call, Event, State, Terms, Warning, first_over, limit, start, step}
 use Rattle.dispatcher.specs.Shown.{Shows}
 use Rattle.dispatcher.specs.Views.{View, view}
 
@@ -35,3 +36,9 @@ module _ {B M : Type 0} (trays : B → List (List (Cell M))) (each all : B → �
   -- the machine's next state
   abbrev pub Steps : {t : Trays.Ghosts B M} {m : Message.Ghosts M} {i : Timed.Ghosts M} → Dispatcher B M t m i → Dispatcher B M t m i → Call M → Event M → Type 0
   Steps before after c a = Simulates (view trays each all interval before) (view trays each all interval after) c a
+
+  -- an open dispatcher whose bank is empty accepts each post of interval 1 to N, the number of trays less one, while
+  -- receipts last
+  abbrev pub TakesWhenEmpty : {t : Trays.Ghosts B M} {m : Message.Ghosts M} {i : Timed.Ghosts M} → Dispatcher B M t m i → M → Result Slip Refusal → Type 0
+  TakesWhenEmpty d x r =
+      (b : Terms M) (m : State M) → Shows b (view trays each all interval d) m → d.«open» ≡ true → held_in (trays d.bank) ≡ 0 → 0 < interval x → interval x ≤ length (trays d.bank) - 1 → d.receipt < limit → r ≡ Ok (record { receipt = d.receipt; deadline = d.cycle + interval x })

@@ -1,8 +1,8 @@
-use Rattle.std.specs.Prelude.{◌≡◌, ℕ, ◌+◌, ◌≤◌, true, false, ◌↔◌, List, ◌++◌, map, take, Some, None, Option}
+use Rattle.std.specs.Prelude.{◌≡◌, ℕ, ◌+◌, ◌*◌, ◌<◌, ◌≤◌, true, false, ◌↔◌, List, ◌++◌, map, take, Some, None, Option}
 use Rattle.dispatcher.specs.Machine.{Call, Entry, Terms, Told, Warning, call_of, run}
 use Rattle.std.specs.List.{slice_get}
 use Rattle.dispatcher.specs.declared.event.Event.TheVariants.{Dispatched, Named, Posted, Warned}
-use Rattle.dispatcher.specs.History.{History, ServiceOrder, late_posts, own, Service, Meets, dispatches, namings, lying, DispatchedInTime, NamedAfterTurn, Lies}
+use Rattle.dispatcher.specs.History.{History, ServiceOrder, late_posts, own, Service, Meets, dispatches, due_within, namings, lying, DispatchedInTime, NamedAfterTurn, Lies}
 
 -- The history is of the calls that were made, in their order; and what has happened stays as it was when more calls come.
 pub record IsOfCalls {M : Type 0} (b : Terms M) (calls : List (Call M)) : Type 0 where
@@ -28,6 +28,18 @@ LeastLate M = (b : Terms M) (calls : List (Call M)) → LateIsLeast (run b calls
 abbrev pub WarningsRight : {M : Type 0} → History M → Type 0
 WarningsRight h =
     (w c : ℕ) (a : Option Warning) → slice_get h w ≡ Some (Warned c a) → (a ≡ None) ↔ ((plan : ℕ → Service) × Meets (take w h) c plan)
+
+-- A warning told c services named a: so many pending posts are due within so many cycles, which is more than c in each
+-- of these can serve; within fewer cycles there are not too many. N is the longest interval.
+pub record NamesLeast {M : Type 0} (h : History M) (N c : ℕ) (a : Warning) : Type 0 where
+  pub some_ahead : 0 < a.ahead
+  pub within : a.ahead ≤ N
+  pub load : a.load ≡ due_within h a.ahead
+  pub too_many : c * a.ahead < a.load
+  pub least : (f : ℕ) → 0 < f → f < a.ahead → due_within h f ≤ c * f
+
+abbrev pub WarningsLeast : {M : Type 0} → ℕ → History M → Type 0
+WarningsLeast N h = (w c : ℕ) (a : Warning) → slice_get h w ≡ Some (Warned c (Some a)) → NamesLeast (take w h) N c a
 
 abbrev pub WarnsExactly : Type 0 → Type 0
 WarnsExactly M = (b : Terms M) (calls : List (Call M)) → WarningsRight (run b calls).history

@@ -1,17 +1,19 @@
 -- The law of whole runs, of a dispatcher as it is: its late count, and the trays of its bank.
-use Rattle.std.specs.Prelude.{◌≡◌, ℕ, ◌+◌, ◌≤◌, List, [], ◌∷◌, ◌++◌, map, length, take, Some, count_by, Option, nat_eq}
+use Rattle.std.specs.Prelude.{◌≡◌, ℕ, ◌+◌, ◌-◌, ◌%◌, ◌≤◌, true, List, [], ◌∷◌, ◌++◌, map, length, take, Some, count_by, Option, nat_eq}
 use Rattle.std.specs.List.{slice_get}
 use Rattle.banks.specs.declared.bank.Trays
 use Rattle.messages.specs.declared.message.Message
 use Rattle.messages.specs.declared.message.Timed
 use Rattle.banks.specs.declared.cell.Cell.{Cell}
+use Rattle.banks.specs.Trays.{tray_at}
 use Rattle.dispatcher.specs.declared.dispatcher.Dispatcher.{Dispatcher}
 use Rattle.dispatcher.specs.declared.event.Event.TheVariants.{Dispatched, Named, Posted}
-use Rattle.dispatcher.specs.History.{DispatchedInTime, History, NamedAfterTurn, ServiceOrder, dispatches, late_posts, namings, own}
+use Rattle.dispatcher.specs.History.{DispatchedInTime, History, NamedAfterTurn, ServiceOrder, dispatches, gives_out, is_post, late_posts, namings, own}
 use Rattle.dispatcher.specs.Machine.{Call, Entry, Event, Terms, call_of, run}
-use Rattle.dispatcher.specs.Shown.{Shows}
+use Rattle.dispatcher.specs.Shown.{Shows, cell_of}
+use Rattle.dispatcher.specs.Steps.{Steps, terms}
 use Rattle.dispatcher.specs.Views.{View, view}
-use Rattle.dispatcher.specs.Theorems.{WarningsRight}
+use Rattle.dispatcher.specs.Theorems.{WarningsLeast, WarningsRight}
 
 -- how often the receipt r stands in trays
 abbrev pub lying_in : {M : Type 0} → List (List (Cell M)) → ℕ → ℕ
@@ -32,6 +34,24 @@ pub record Obeys {M : Type 0} (h : History M) (late : ℕ) (trays : List (List (
   pub exactly_once : (p : ℕ) (e : Entry M) → slice_get h p ≡ Some (Posted e) → dispatches h e.receipt + namings h e.receipt + lying_in trays e.receipt ≡ 1
   pub dispatched_in_time : (q : ℕ) (f : Entry M) → slice_get h q ≡ Some (Dispatched (Some f)) → DispatchedInTime h q f
   pub named_after_turn : (q : ℕ) (f : Entry M) → slice_get h q ≡ Some (Named (Some f)) → NamedAfterTurn h q f
+
+-- the cell c of tray k, of n trays, is that of an accepted post whose deadline has this tray
+pub record InItsTray {M : Type 0} (h : History M) (n k : ℕ) (c : Cell M) : Type 0 where
+  pub entry : Entry M
+  pub place : ℕ
+  pub is_post : slice_get h place ≡ Some (Posted entry)
+  pub same : c ≡ cell_of entry
+  pub by_deadline : entry.deadline % n ≡ k
+
+-- what a history and the dispatcher at its end account for beside that
+pub record Accounts {M : Type 0} (h : History M) (v : View M) : Type 0 where
+  -- a warning that named something named the least such number of cycles, and how many posts are due within them
+  pub warnings_least : WarningsLeast (length v.trays - 1) h
+  -- once it is open, the trays hold cells of accepted posts and no others, each in the tray of its deadline
+  pub in_its_tray : v.is_open ≡ true → (k i : ℕ) (c : Cell M) → slice_get (tray_at v.trays k) i ≡ Some c → InItsTray h (length v.trays) k c
+  -- the counts are those of the accepted posts, and of the dispatches that gave an entry out
+  pub accepted : v.accepted ≡ count_by is_post h
+  pub dispatched : v.dispatched ≡ count_by gives_out h
 
 -- these calls led a new dispatcher, made with the terms b, to what v shows of it, and happened as h says
 pub record Led {M : Type 0} (b : Terms M) (v : View M) (calls : List (Call M)) (h : History M) : Type 0 where
@@ -61,3 +81,33 @@ module _ {B M : Type 0} (trays : B → List (List (Cell M))) where
   abbrev pub ObeysOn : {t : Trays.Ghosts B M} {m : Message.Ghosts M} {i : Timed.Ghosts M} → (B → ℕ) → (B → ℕ) → (M → ℕ) → Dispatcher B M t m i → Dispatcher B M t m i → Call M → Event M → Type 0
   ObeysOn each all interval before after c a =
       CarriesOn (view trays each all interval before) (view trays each all interval after) c a
+
+-- one call more: whatever calls led to v, what has happened with this call is accounted for at w
+abbrev pub AccountsNext : {M : Type 0} → View M → View M → Call M → Event M → Type 0
+AccountsNext {M} v w c a = (b : Terms M) (calls : List (Call M)) (h : History M) → Led b v calls h → Accounts (h ++ a ∷ []) w
+
+-- what a dispatcher, made with the terms b, looked like after the first k calls, which led to it: all that had happened
+-- obeyed, and was accounted for
+pub record Accounted {M : Type 0} (b : Terms M) (calls : List (Call M)) (h : History M) (k : ℕ) : Type 0 where
+  pub seen : View M
+  pub led : Led b seen (take k calls) (take k h)
+  pub law : Obeys (take k h) seen.late seen.trays
+  pub accounts : Accounts (take k h) seen
+
+module _ {B M : Type 0} (trays : B → List (List (Cell M))) (each all : B → ℕ) (interval : M → ℕ) where
+  -- these calls, made on a new dispatcher over the bank, led to the dispatcher d: of each call the answer that the machine
+  -- gives, and all of it accounted for at the start, after each call, and at the end
+  pub record AccountedRun {t : Trays.Ghosts B M} {m : Message.Ghosts M} {i : Timed.Ghosts M} (bank : B) (d : Dispatcher B M t m i) (calls : List (Call M)) (h : History M) : Type 0 where
+    pub led : Led (terms trays each all interval bank) (view trays each all interval d) calls h
+    pub after_each : (k : ℕ) → k ≤ length calls → Accounted (terms trays each all interval bank) calls h k
+    pub accounts : Accounts h (view trays each all interval d)
+
+  -- a call of a dispatcher carries the account on
+  abbrev pub AccountsOn : {t : Trays.Ghosts B M} {m : Message.Ghosts M} {i : Timed.Ghosts M} → Dispatcher B M t m i → Dispatcher B M t m i → Call M → Event M → Type 0
+  AccountsOn before after c a = AccountsNext (view trays each all interval before) (view trays each all interval after) c a
+
+  -- what every call of a dispatcher keeps to: it goes as the machine goes, and it carries the law and the account on
+  pub record LawfulCall {t : Trays.Ghosts B M} {m : Message.Ghosts M} {i : Timed.Ghosts M} (before after : Dispatcher B M t m i) (c : Call M) (a : Event M) : Type 0 where
+    pub steps : Steps trays each all interval before after c a
+    pub law : ObeysOn trays each all interval before after c a
+    pub account : AccountsOn before after c a

@@ -1,7 +1,7 @@
 // The calls of a dispatcher as values.
 
 // A call, with what it is told.
-#[derive(Clone, Copy)]
+#[derive(Clone, Copy, Debug, PartialEq, Eq)]
 pub enum Call<M> {
     // the first cycle and the first receipt
     Open(u32, u32),

@@ -5,6 +5,7 @@ use banks::bank::Bank;
 use messages::message::Timed;
 
 pub mod calls;
+pub mod questions;
 pub mod running;
 
 // A bank, and the dispatcher's own numbers. Entries lie in the bank and nowhere else: of its span + 1 trays, that of the

@@ -1,7 +1,7 @@
 // What the calls of a dispatcher answer.
 
 // An accepted post: its receipt, its message, and the cycle by which it has to be dispatched.
-#[derive(Clone, Copy)]
+#[derive(Clone, Copy, Debug, PartialEq, Eq)]
 pub struct Entry<M> {
     pub receipt: u32,
     pub message: M,
@@ -9,14 +9,14 @@ pub struct Entry<M> {
 }
 
 // What an accepted post is answered: its receipt and its deadline cycle.
-#[derive(Clone, Copy)]
+#[derive(Clone, Copy, Debug, PartialEq, Eq)]
 pub struct Slip {
     pub receipt: u32,
     pub deadline: u32,
 }
 
 // What a warning names: within so many cycles, so many entries are due, which is more than can be served.
-#[derive(Clone, Copy)]
+#[derive(Clone, Copy, Debug, PartialEq, Eq)]
 pub struct Warning {
     pub ahead: usize,
     pub load: usize,
@@ -24,7 +24,7 @@ pub struct Warning {
 
 // How things stand: the cycle, how many posts were accepted, how many entries were dispatched and how many became late,
 // and how many are pending and wait to be named.
-#[derive(Clone, Copy)]
+#[derive(Clone, Copy, Debug, PartialEq, Eq)]
 pub struct Figures {
     pub cycle: u32,
     pub accepted: usize,

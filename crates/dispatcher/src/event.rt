@@ -9,7 +9,7 @@ use crate::entry::{Entry, Figures, Slip, Warning};
 use messages::refusal::Refusal;
 
 // What happened at one call. A run's events, one after another, are its history.
-#[derive(Clone, Copy)]
+#[derive(Clone, Copy, Debug, PartialEq, Eq)]
 pub enum Event<M> {
     // any call, and why it was refused
     Refused(Call<M>, Refusal),

@@ -1,7 +1,8 @@
 // The calls of a dispatcher.
 ghost use Rattle.std.specs.Prelude.{◌≡◌, ◌≤◌};
 ghost use Rattle.dispatcher.specs.Search.{FirstHeld};
-ghost use Rattle.dispatcher.specs.Steps.{Fails, Foresees, Starts, Steps};
+ghost use Rattle.dispatcher.specs.Steps.{Fails, Foresees, Starts, Steps, TakesWhenEmpty};
+ghost use Rattle.dispatcher.specs.WholeRuns.{AccountsOn, ObeysOn};
 ghost use Rattle.dispatcher.specs.declared.call.Call.TheVariants.{Ask, Begin, Dispatch, Name, Open, Post, Turn, Warn};
 ghost use Rattle.dispatcher.specs.declared.event.Event.TheVariants.{Asked, Begun, Dispatched, Named, Opened, Posted, Turned, Warned};
 ghost use Rattle.dispatcher.specs.Answers.{answered, entered};
@@ -42,6 +43,8 @@ where
     pub fn open(&mut self, cycle: u32, receipt: u32) -> Result<(), Refusal>
         ensures steps { Steps B.Trays.trays B.Trays.tray_limit B.Trays.total_limit B.Item.Timed.interval self.old self.new (Open cycle receipt) (answered (Open cycle receipt) (λ _. Opened cycle receipt) result) }
         ensures same { Fails result → self.new ≡ self.old }
+        ensures law { ObeysOn B.Trays.trays B.Trays.tray_limit B.Trays.total_limit B.Item.Timed.interval self.old self.new (Open cycle receipt) (answered (Open cycle receipt) (λ _. Opened cycle receipt) result) }
+        ensures account { AccountsOn B.Trays.trays B.Trays.tray_limit B.Trays.total_limit B.Item.Timed.interval self.old self.new (Open cycle receipt) (answered (Open cycle receipt) (λ _. Opened cycle receipt) result) }
     {
         if self.open {
             return Err(Refusal::AlreadyOpen);
@@ -63,6 +66,9 @@ where
     pub fn post(&mut self, message: B::Item) -> Result<Slip, Refusal>
         ensures steps { Steps B.Trays.trays B.Trays.tray_limit B.Trays.total_limit B.Item.Timed.interval self.old self.new (Post message) (answered (Post message) (λ p. Posted (entered p message)) result) }
         ensures same { Fails result → self.new ≡ self.old }
+        ensures law { ObeysOn B.Trays.trays B.Trays.tray_limit B.Trays.total_limit B.Item.Timed.interval self.old self.new (Post message) (answered (Post message) (λ p. Posted (entered p message)) result) }
+        ensures account { AccountsOn B.Trays.trays B.Trays.tray_limit B.Trays.total_limit B.Item.Timed.interval self.old self.new (Post message) (answered (Post message) (λ p. Posted (entered p message)) result) }
+        ensures room { TakesWhenEmpty B.Trays.trays B.Trays.tray_limit B.Trays.total_limit B.Item.Timed.interval self.old message result }
     {
         if !self.open {
             return Err(Refusal::Shut);
@@ -109,6 +115,8 @@ where
     pub fn dispatch(&mut self) -> Result<Option<Entry<B::Item>>, Refusal>
         ensures steps { Steps B.Trays.trays B.Trays.tray_limit B.Trays.total_limit B.Item.Timed.interval self.old self.new Dispatch (answered Dispatch Dispatched result) }
         ensures same { Fails result → self.new ≡ self.old }
+        ensures law { ObeysOn B.Trays.trays B.Trays.tray_limit B.Trays.total_limit B.Item.Timed.interval self.old self.new Dispatch (answered Dispatch Dispatched result) }
+        ensures account { AccountsOn B.Trays.trays B.Trays.tray_limit B.Trays.total_limit B.Item.Timed.interval self.old self.new Dispatch (answered Dispatch Dispatched result) }
     {
         if !self.open {
             return Err(Refusal::Shut);
@@ -134,6 +142,8 @@ where
     pub fn name(&mut self) -> Result<Option<Entry<B::Item>>, Refusal>
         ensures steps { Steps B.Trays.trays B.Trays.tray_limit B.Trays.total_limit B.Item.Timed.interval self.old self.new Name (answered Name Named result) }
         ensures same { Fails result → self.new ≡ self.old }
+        ensures law { ObeysOn B.Trays.trays B.Trays.tray_limit B.Trays.total_limit B.Item.Timed.interval self.old self.new Name (answered Name Named result) }
+        ensures account { AccountsOn B.Trays.trays B.Trays.tray_limit B.Trays.total_limit B.Item.Timed.interval self.old self.new Name (answered Name Named result) }
     {
         if !self.open {
             return Err(Refusal::Shut);
@@ -154,6 +164,8 @@ where
     pub fn turn(&mut self, cycle: u32) -> Result<usize, Refusal>
         ensures steps { Steps B.Trays.trays B.Trays.tray_limit B.Trays.total_limit B.Item.Timed.interval self.old self.new (Turn cycle) (answered (Turn cycle) (Turned cycle) result) }
         ensures same { Fails result → self.new ≡ self.old }
+        ensures law { ObeysOn B.Trays.trays B.Trays.tray_limit B.Trays.total_limit B.Item.Timed.interval self.old self.new (Turn cycle) (answered (Turn cycle) (Turned cycle) result) }
+        ensures account { AccountsOn B.Trays.trays B.Trays.tray_limit B.Trays.total_limit B.Item.Timed.interval self.old self.new (Turn cycle) (answered (Turn cycle) (Turned cycle) result) }
     {
         if !self.open {
             return Err(Refusal::Shut);
@@ -195,6 +207,8 @@ where
     pub fn warn(&mut self, services: u32) -> Result<Option<Warning>, Refusal>
         ensures steps { Steps B.Trays.trays B.Trays.tray_limit B.Trays.total_limit B.Item.Timed.interval self.old self.new (Warn services) (answered (Warn services) (Warned services) result) }
         ensures same { self.new ≡ self.old }
+        ensures law { ObeysOn B.Trays.trays B.Trays.tray_limit B.Trays.total_limit B.Item.Timed.interval self.old self.new (Warn services) (answered (Warn services) (Warned services) result) }
+        ensures account { AccountsOn B.Trays.trays B.Trays.tray_limit B.Trays.total_limit B.Item.Timed.interval self.old self.new (Warn services) (answered (Warn services) (Warned services) result) }
     {
         if !self.open {
             return Err(Refusal::Shut);
@@ -209,6 +223,8 @@ where
     pub fn begin(&mut self) -> Result<(), Refusal>
         ensures steps { Steps B.Trays.trays B.Trays.tray_limit B.Trays.total_limit B.Item.Timed.interval self.old self.new Begin (answered Begin (λ _. Begun) result) }
         ensures same { Fails result → self.new ≡ self.old }
+        ensures law { ObeysOn B.Trays.trays B.Trays.tray_limit B.Trays.total_limit B.Item.Timed.interval self.old self.new Begin (answered Begin (λ _. Begun) result) }
+        ensures account { AccountsOn B.Trays.trays B.Trays.tray_limit B.Trays.total_limit B.Item.Timed.interval self.old self.new Begin (answered Begin (λ _. Begun) result) }
     {
         if !self.open {
             return Err(Refusal::Shut);
@@ -224,6 +240,8 @@ where
     pub fn ask(&mut self) -> Figures
         ensures steps { Steps B.Trays.trays B.Trays.tray_limit B.Trays.total_limit B.Item.Timed.interval self.old self.new Ask (Asked result) }
         ensures same { self.new ≡ self.old }
+        ensures law { ObeysOn B.Trays.trays B.Trays.tray_limit B.Trays.total_limit B.Item.Timed.interval self.old self.new Ask (Asked result) }
+        ensures account { AccountsOn B.Trays.trays B.Trays.tray_limit B.Trays.total_limit B.Item.Timed.interval self.old self.new Ask (Asked result) }
     {
         if !self.open {
             return Figures {

@@ -1,6 +1,6 @@
 // Calls one after another, from a newly made dispatcher on.
 ghost use Rattle.dispatcher.specs.Steps.{Steps};
-ghost use Rattle.dispatcher.specs.WholeRuns.{ObeysOn, WholeRun};
+ghost use Rattle.dispatcher.specs.WholeRuns.{AccountedRun, AccountsOn, ObeysOn, WholeRun};
 ghost use Rattle.std.specs.Prelude.{IfOk};
 
 use crate::call::Call;
@@ -18,6 +18,7 @@ where
     pub fn perform(&mut self, call: Call<B::Item>) -> Event<B::Item>
         ensures steps { Steps B.Trays.trays B.Trays.tray_limit B.Trays.total_limit B.Item.Timed.interval self.old self.new call result }
         ensures law { ObeysOn B.Trays.trays B.Trays.tray_limit B.Trays.total_limit B.Item.Timed.interval self.old self.new call result }
+        ensures account { AccountsOn B.Trays.trays B.Trays.tray_limit B.Trays.total_limit B.Item.Timed.interval self.old self.new call result }
     {
         self.answer(call)
     }
@@ -48,7 +49,8 @@ pub fn run<B: Bank + Drop>(
 ) -> Result<(Dispatcher<B>, Vec<Event<B::Item>>), AllocError>
 where
     B::Item: Timed,
-    ensures { IfOk result (λ out. WholeRun B.Trays.trays out.0 calls.now out.1.items) }
+    ensures law { IfOk result (λ out. WholeRun B.Trays.trays out.0 calls.now out.1.items) }
+    ensures account { IfOk result (λ out. AccountedRun B.Trays.trays B.Trays.tray_limit B.Trays.total_limit B.Item.Timed.interval bank out.0 calls.now out.1.items) }
 {
     let mut dispatcher = Dispatcher::new(bank);
     let mut events = Vec::new(heap);

@@ -3,11 +3,14 @@ use Rattle.std.proofs.lemmas.List.{take_all, take_more}
 use Rattle.std.proofs.lemmas.Result.{IfOk-from_err}
 use Rattle.dispatcher.specs.Steps.{terms}
 use Rattle.dispatcher.specs.Views.{View, view}
-use Rattle.dispatcher.proofs.RealRuns.{Both, both_length, both_more, both_none, follows_calls, follows_obeys}
+use Rattle.dispatcher.proofs.RealRuns.{Both, both_length, both_more, both_none, follows_accounts, follows_calls, follows_obeys}
 use Rattle.dispatcher.proofs.dispatcher.running.run.Goals as goal
 
-pub returns-in_err-push : goal.returns-in_err-push
-returns-in_err-push g c = IfOk-from_err c.from_residual.result _ c.from_residual.ensures.0
+pub returns-in_err-push-clause-law : goal.returns-in_err-push-clause-law
+returns-in_err-push-clause-law g c = IfOk-from_err c.from_residual.result _ c.from_residual.ensures.0
+
+pub returns-in_err-push-clause-account : goal.returns-in_err-push-clause-account
+returns-in_err-push-clause-account g c = IfOk-from_err c.from_residual.result _ c.from_residual.ensures.0
 
 pub loop-call-init : goal.loop-call-init
 loop-call-init g c b s = both_none b _ _ s c.new-events.ensures.items
@@ -36,7 +39,10 @@ returns g c =
     let h = vec_items l.events in
     let n = both_length b v calls h f in
     record {
-      of_calls = follows_calls b v calls h f.follows;
-      after_each = λ k less. f.obeyed k (omega arith);
-      law = follows_obeys b v calls h f.follows;
+      law = record {
+        of_calls = follows_calls b v calls h f.follows;
+        after_each = λ k less. f.obeyed k (omega arith);
+        law = follows_obeys b v calls h f.follows;
+      };
+      account = record { led = f.follows; after_each = f.accounted; accounts = follows_accounts b v calls h f.follows };
     }
