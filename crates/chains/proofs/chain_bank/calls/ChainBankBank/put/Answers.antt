@@ -24,8 +24,8 @@ returns-then-count-eq0 g c =
     let a = b.all in
     record { puts = record { absent = λ l. absurd (omega arith); full = λ _ _. (refl, refl); placed = λ _ room. absurd (omega arith); limits = (refl, refl) }; fills = λ e. absurd (refused e); lent = refl }
 
-pub invariant-of-self : goal.invariant-of-self
-invariant-of-self g c =
+pub invariant_of-self : goal.invariant_of-self
+invariant_of-self g c =
     let b = c.args.self.now in
     let s = c.shift-place.ensures in
     let l : c.args.tray < b.trays = omega arith in
@@ -33,7 +33,7 @@ invariant-of-self g c =
     let z = s.size in
     let all = b.all in
     let sum = counts_put b.links.heads c.shift-place.new.self.heads b.links.next b.trays c.args.tray 128 l b.few (omega arith) (omega arith) (omega arith) s.heads s.grown.more (s.grown.others 128 (λ e. omega arith)).0 in
-    (b.few, (omega arith, ((λ u. let p = b.some u in omega arith), (omega arith, tt))))
+    record { few = b.few; fits = omega arith; some = λ u. (let p = b.some u in omega arith); all = omega arith }
 
 pub returns : goal.returns
 returns g c =
