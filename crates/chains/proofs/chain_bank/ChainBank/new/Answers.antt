@@ -1,4 +1,4 @@
-use Rattle.std.proofs.Common.{◌≡◌, cond, eqb, sym, refl, ap, ◌∙◌, arith}
+use Rattle.std.proofs.Common.{cond, eqb, refl, ap, ◌∙◌, arith}
 use Rattle.chains.proofs.Moves.{free_all, free_trays}
 use Rattle.chains.proofs.chain_bank.ChainBank.new.Goals as goal
 

@@ -1,6 +1,5 @@
-use Rattle.std.proofs.Common.{◌≡◌, length, sym, refl, ap, ◌∙◌, subst, arith, length-set}
-use lib.ListN.{length-replicate}
-use Rattle.chains.specs.Chains.{Inside, Apart, Ends, counted, all_free}
+use Rattle.std.proofs.Common.{length, sym, ap, subst, arith}
+use Rattle.chains.specs.Chains.{Inside, Apart, Ends, counted}
 use Rattle.chains.proofs.Steps.{free_inside, free_apart, free_ends, free_counts}
 use Rattle.chains.proofs.links.Links.new.Goals as goal
 

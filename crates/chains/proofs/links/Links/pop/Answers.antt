@@ -1,4 +1,4 @@
-use Rattle.std.proofs.Common.{◌<◌, length, refl, ap, ◌∙◌, arith, length-set}
+use Rattle.std.proofs.Common.{◌<◌, length, refl, ◌∙◌, arith, length-set}
 use Rattle.chains.specs.Chains.{link_at}
 use Rattle.chains.proofs.Steps.{pop_inside, pop_apart, pop_ends, pop_free, pop_counts}
 use Rattle.chains.proofs.links.Links.pop.Goals as goal

@@ -1,5 +1,4 @@
-use Rattle.std.proofs.Common.{◌≡◌, ◌<◌, length, sym, refl, ap, ◌∙◌, arith, length-set}
-use Rattle.chains.specs.Chains.{link_at}
+use Rattle.std.proofs.Common.{◌<◌, length, refl, ◌∙◌, arith, length-set}
 use Rattle.chains.proofs.Steps.{first_grown, grown_inside, grown_apart, grown_ends, counted_set}
 use Rattle.chains.proofs.links.Links.push_first.Goals as goal
 

@@ -1,9 +1,8 @@
-use Rattle.std.proofs.Common.{◌≡◌, ℕ, ◌+◌, ◌<◌, ◌≤◌, ◌⊎◌, length, set, Ok, Err, Result, sym, refl, ap, ◌∙◌, inl, inr, arith, length-set}
+use Rattle.std.proofs.Common.{◌≡◌, ℕ, ◌<◌, Ok, Err, Result, refl, inl, inr, arith}
 use Rattle.messages.specs.declared.refusal.Refusal.{Refusal}
-use Rattle.banks.specs.Trays.{tray_at}
-use Rattle.chains.specs.Chains.{link_at, without, chain_trays}
+use Rattle.chains.specs.Chains.{link_at, chain_trays}
 use Rattle.banks.proofs.Holding.{tray_held}
-use Rattle.chains.proofs.Moves.{trays_count, trays_held, trays_holds, counts_put, put_step}
+use Rattle.chains.proofs.Moves.{trays_count, trays_held, counts_put, put_step}
 use Rattle.chains.specs.ChainLaws.{without_entry}
 use Rattle.chains.proofs.chain_bank.calls.ChainBankBank.put.Goals as goal
 

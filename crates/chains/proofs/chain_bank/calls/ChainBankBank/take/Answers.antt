@@ -1,8 +1,7 @@
-use Rattle.std.proofs.Common.{◌≡◌, ◌+◌, ◌<◌, ◌≤◌, length, set, Some, sym, refl, ap, ◌∙◌, arith, rules}
+use Rattle.std.proofs.Common.{◌<◌, length, Some, sym, refl, ap, ◌∙◌, arith, rules}
 use Rattle.std.proofs.lemmas.List.{nil_from_length}
 use Rattle.banks.proofs.Cells.{take_none}
-use Rattle.banks.specs.Trays.{tray_at}
-use Rattle.chains.specs.Chains.{link_at, without, chain_trays}
+use Rattle.chains.specs.Chains.{chain_trays}
 use Rattle.chains.proofs.Moves.{trays_exists, trays_holds, counts_take, take_step}
 use Rattle.chains.proofs.chain_bank.calls.ChainBankBank.take.Goals as goal
 
