@@ -1,5 +1,5 @@
 -- What a put and a take do to the trays of a chain bank.
-use Rattle.std.proofs.Common.{◌≡◌, ℕ, zero, suc, ◌+◌, ◌-◌, ◌<◌, ◌≤◌, cond, eqb, ◌⊎◌, List, [], ◌∷◌, ◌++◌, length, get_or, take, set, replicate, Some, None, sym, refl, ap, ◌∙◌, inl, inr, append_assoc, append-nil, arith, length-append, length-set, length-take}
+use Rattle.std.proofs.Common.{◌≡◌, ℕ, zero, suc, ◌+◌, ◌-◌, ◌<◌, ◌≤◌, List, [], ◌∷◌, ◌++◌, length, get_or, take, set, replicate, Some, sym, refl, ap, ◌∙◌, inl, inr, append_assoc, append-nil, arith, length-append, length-set, length-take}
 use lib.ListN.{length-replicate}
 use Rattle.std.proofs.lemmas.List.{take-replicate, get_or_past, get_or-take, take-set-le, get_or-set_other, get_or-set_same}
 use Rattle.std.proofs.lemmas.Bool.{cases_lt}
@@ -9,7 +9,7 @@ use Rattle.banks.proofs.Cells.{cell_other, cell_same, cell_read, cell_one, take_
 use Rattle.chains.specs.declared.link.Link.{Link}
 use Rattle.chains.specs.Chains.{no_link, link_at, step, place, Has, Inside, Free, counted, popped, without, Grown, chain_cells, chain_rows, chain_trays, all_free}
 use Rattle.chains.specs.ChainLaws.{rows_length}
-use Rattle.chains.proofs.Steps.{step_next, counted_set, counted_at, counted_none, link_none}
+use Rattle.chains.proofs.Steps.{step_next, counted_set, counted_none}
 
 pub chain_keep : {C : Type 0} (cells after : List C) (next next' : List ℕ) (from from' n : ℕ) → ((i : ℕ) → i < n → cell_at after (step next' from' i) ≡ cell_at cells (step next from i)) → chain_cells after next' from' n ≡ chain_cells cells next from n
 chain_keep cells after next next' from from' zero same = refl

@@ -1,5 +1,5 @@
 -- Chains of places.
-use Rattle.std.specs.Prelude.{◌≡◌, ℕ, zero, suc, ◌+◌, ◌-◌, ◌<◌, ◌≤◌, min, cond, List, [], ◌∷◌, ◌++◌, map, length, take, replicate, ◌==◌, ◌≢◌, nat_le, slice_index, slice_index_or, slice_set}
+use Rattle.std.specs.Prelude.{◌≡◌, ℕ, zero, suc, ◌+◌, ◌-◌, ◌<◌, min, cond, List, [], ◌∷◌, ◌++◌, take, replicate, ◌==◌, ◌≢◌, nat_le, slice_index, slice_index_or, slice_set}
 use Rattle.banks.specs.Tables.{cell_at}
 use Rattle.chains.specs.declared.link.Link.{Link}
 

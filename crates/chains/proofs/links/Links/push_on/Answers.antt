@@ -1,4 +1,4 @@
-use Rattle.std.proofs.Common.{◌≡◌, ◌+◌, ◌-◌, ◌<◌, length, sym, refl, ap, ◌∙◌, arith, length-set}
+use Rattle.std.proofs.Common.{◌+◌, ◌-◌, ◌<◌, length, refl, ◌∙◌, arith, length-set}
 use Rattle.chains.specs.Chains.{link_at}
 use Rattle.chains.proofs.Steps.{on_grown, grown_inside, grown_apart, grown_ends, counted_set, counted_at}
 use Rattle.chains.proofs.links.Links.push_on.Goals as goal
@@ -11,14 +11,14 @@ bounds-self-head c =
     let e = s.ends c.args.chain (n - 1) (omega arith) in
     omega arith
 
-pub overflow-add-self : goal.overflow-add-self
-overflow-add-self c =
+pub overflow_add-self : goal.overflow_add-self
+overflow_add-self c =
     let s = c.args.self.now in
     let u = counted_at s.heads c.args.chain in
     omega arith
 
-pub invariant-of-self : goal.invariant-of-self
-invariant-of-self c =
+pub invariant_of-self : goal.invariant_of-self
+invariant_of-self c =
     let s = c.args.self.now in
     let k = c.args.chain in
     let l : c.args.chain < length s.heads = omega arith in
@@ -26,25 +26,16 @@ invariant-of-self c =
     let n = (link_at s.heads c.args.chain).count in
     let i = s.inside c.args.chain (n - 1) (omega arith) in
     let e = s.ends c.args.chain (n - 1) (omega arith) in
-    let g = on_grown s.heads s.next k c.args.free l some s.apart s.ends (omega arith) in (
-      length-set s.heads k _ ∙ s.whole,
-      (
-        length-set s.next (link_at s.heads k).last c.args.free ∙ s.long,
-        (
-          s.small,
-          (
-            (let t = counted_set s.heads k (record { first = (link_at s.heads k).first; last = c.args.free; count = (link_at s.heads k).count + 1 }) l in omega arith),
-            (
-              grown_inside g s.size c.requires.0.1.0 s.inside,
-              (
-                grown_apart g c.requires.0.1.1.0 s.apart,
-                (grown_ends g s.ends, tt),
-              ),
-            ),
-          ),
-        ),
-      ),
-    )
+    let g = on_grown s.heads s.next k c.args.free l some s.apart s.ends (omega arith) in
+    record {
+      whole = length-set s.heads k _ ∙ s.whole;
+      long = length-set s.next (link_at s.heads k).last c.args.free ∙ s.long;
+      small = s.small;
+      counts = (let t = counted_set s.heads k (record { first = (link_at s.heads k).first; last = c.args.free; count = (link_at s.heads k).count + 1 }) l in omega arith);
+      inside = grown_inside g s.size c.requires.chain_bound.1.0 s.inside;
+      apart = grown_apart g c.requires.chain_bound.1.1.0 s.apart;
+      ends = grown_ends g s.ends;
+    }
 
 pub returns : goal.returns
 returns c =

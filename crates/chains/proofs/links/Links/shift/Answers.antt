@@ -1,4 +1,4 @@
-use Rattle.std.proofs.Common.{◌≡◌, set, sym, ap, ◌∙◌}
+use Rattle.std.proofs.Common.{set, ap, ◌∙◌}
 use Rattle.chains.specs.Chains.{link_at}
 use Rattle.chains.proofs.Steps.{grown_from, free_from}
 use Rattle.chains.proofs.links.Links.shift.Goals as goal

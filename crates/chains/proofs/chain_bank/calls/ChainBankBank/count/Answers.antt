@@ -1,4 +1,4 @@
-use Rattle.std.proofs.Common.{◌<◌, length, sym, ap, ◌∙◌, arith}
+use Rattle.std.proofs.Common.{length, sym, ap, ◌∙◌, arith}
 use Rattle.chains.proofs.Moves.{trays_holds, trays_past}
 use Rattle.chains.proofs.chain_bank.calls.ChainBankBank.count.Goals as goal
 

@@ -1,9 +1,8 @@
-use Rattle.std.proofs.Common.{◌≡◌, ℕ, ◌+◌, ◌<◌, ◌≤◌, ◌⊎◌, length, set, Ok, Err, Result, sym, refl, ap, ◌∙◌, inl, inr, arith, length-set}
+use Rattle.std.proofs.Common.{◌≡◌, ℕ, ◌<◌, Ok, Err, Result, refl, inl, inr, arith}
 use Rattle.messages.specs.declared.refusal.Refusal.{Refusal}
-use Rattle.banks.specs.Trays.{tray_at}
-use Rattle.chains.specs.Chains.{link_at, without, chain_trays}
+use Rattle.chains.specs.Chains.{link_at, chain_trays}
 use Rattle.banks.proofs.Holding.{tray_held}
-use Rattle.chains.proofs.Moves.{trays_count, trays_held, trays_holds, counts_put, put_step}
+use Rattle.chains.proofs.Moves.{trays_count, trays_held, counts_put, put_step}
 use Rattle.chains.specs.ChainLaws.{without_entry}
 use Rattle.chains.proofs.chain_bank.calls.ChainBankBank.put.Goals as goal
 
@@ -24,8 +23,8 @@ returns-then-count-eq0 g c =
     let a = b.all in
     record { puts = record { absent = λ l. absurd (omega arith); full = λ _ _. (refl, refl); placed = λ _ room. absurd (omega arith); limits = (refl, refl) }; fills = λ e. absurd (refused e); lent = refl }
 
-pub invariant-of-self : goal.invariant-of-self
-invariant-of-self g c =
+pub invariant_of-self : goal.invariant_of-self
+invariant_of-self g c =
     let b = c.args.self.now in
     let s = c.shift-place.ensures in
     let l : c.args.tray < b.trays = omega arith in
@@ -33,7 +32,7 @@ invariant-of-self g c =
     let z = s.size in
     let all = b.all in
     let sum = counts_put b.links.heads c.shift-place.new.self.heads b.links.next b.trays c.args.tray 128 l b.few (omega arith) (omega arith) (omega arith) s.heads s.grown.more (s.grown.others 128 (λ e. omega arith)).0 in
-    (b.few, (omega arith, ((λ u. let p = b.some u in omega arith), (omega arith, tt))))
+    record { few = b.few; fits = omega arith; some = λ u. (let p = b.some u in omega arith); all = omega arith }
 
 pub returns : goal.returns
 returns g c =

@@ -1,8 +1,7 @@
-use Rattle.std.proofs.Common.{◌≡◌, ◌+◌, ◌<◌, ◌≤◌, length, set, Some, sym, refl, ap, ◌∙◌, arith, rules}
+use Rattle.std.proofs.Common.{◌<◌, length, Some, sym, refl, ap, ◌∙◌, arith, rules}
 use Rattle.std.proofs.lemmas.List.{nil_from_length}
 use Rattle.banks.proofs.Cells.{take_none}
-use Rattle.banks.specs.Trays.{tray_at}
-use Rattle.chains.specs.Chains.{link_at, without, chain_trays}
+use Rattle.chains.specs.Chains.{chain_trays}
 use Rattle.chains.proofs.Moves.{trays_exists, trays_holds, counts_take, take_step}
 use Rattle.chains.proofs.chain_bank.calls.ChainBankBank.take.Goals as goal
 
@@ -28,8 +27,8 @@ in_table g c =
     let f = b.fits in
     omega arith
 
-pub offset-bounds-self-place : goal.offset-bounds-self-place
-offset-bounds-self-place g c = let l = in_table g c in search rules
+pub offset_bounds-self-place : goal.offset_bounds-self-place
+offset_bounds-self-place g c = let l = in_table g c in search rules
 
 pub bounds-self-place : goal.bounds-self-place
 bounds-self-place g c = in_table g c
@@ -41,8 +40,8 @@ shift-requires g c =
     let h = trays_holds b.cells.now b.links.next b.trays b.links.heads c.args.tray b.links.size l b.links.inside b.fits in
     (omega arith, (omega arith, omega arith))
 
-pub invariant-of-self : goal.invariant-of-self
-invariant-of-self g c =
+pub invariant_of-self : goal.invariant_of-self
+invariant_of-self g c =
     let b = c.args.self.now in
     let s = c.shift.ensures in
     let l = trays_exists b.cells.now b.links.next b.trays b.links.heads c.args.tray (omega arith) in
@@ -51,7 +50,7 @@ invariant-of-self g c =
     let z = s.size in
     let all = b.all in
     let sum = counts_take b.links.heads c.shift.new.self.heads b.links.next b.trays c.args.tray 128 l b.few (omega arith) (omega arith) (omega arith) s.heads s.grown.more in
-    (b.few, (omega arith, ((λ u. let p = b.some u in omega arith), (omega arith, tt))))
+    record { few = b.few; fits = omega arith; some = λ u. (let p = b.some u in omega arith); all = omega arith }
 
 pub returns : goal.returns
 returns g c =

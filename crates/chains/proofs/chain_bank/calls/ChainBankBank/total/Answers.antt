@@ -1,4 +1,4 @@
-use Rattle.std.proofs.Common.{sym, ◌∙◌, arith}
+use Rattle.std.proofs.Common.{arith}
 use Rattle.chains.proofs.Moves.{trays_held}
 use Rattle.chains.proofs.chain_bank.calls.ChainBankBank.total.Goals as goal
 

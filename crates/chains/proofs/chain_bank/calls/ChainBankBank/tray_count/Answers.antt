@@ -1,4 +1,4 @@
-use Rattle.std.proofs.Common.{sym, ◌∙◌, arith}
+use Rattle.std.proofs.Common.{sym, arith}
 use Rattle.chains.proofs.Moves.{trays_count}
 use Rattle.chains.proofs.chain_bank.calls.ChainBankBank.tray_count.Goals as goal
 
