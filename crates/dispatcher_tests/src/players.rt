@@ -1,10 +1,10 @@
 // Plays a list of calls on a new dispatcher over any bank, and looks at each answer.
 use banks::bank::Bank;
 use banks::cell::Cell;
-use dispatcher::call::{Call, CallDebug, CallPartialEq};
+use dispatcher::call::Call;
 use dispatcher::dispatcher::running::run;
-use dispatcher::entry::{Entry, EntryDebug, EntryPartialEq};
-use dispatcher::event::{Event, EventDebug, EventPartialEq};
+use dispatcher::entry::Entry;
+use dispatcher::event::Event;
 use messages::note::{Note, NoteKind};
 use std::test::{Fail, assert_eq};
 

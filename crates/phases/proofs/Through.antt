@@ -10,7 +10,7 @@ use Rattle.dispatcher.specs.declared.entry.Entry.{Entry}
 use Rattle.dispatcher.specs.declared.event.Event.{Event}
 use Rattle.dispatcher.specs.declared.event.Event.TheVariants.{Dispatched}
 use Rattle.dispatcher.specs.Answers.{answered}
-use Rattle.dispatcher.specs.History.{History, gives-out}
+use Rattle.dispatcher.specs.History.{History, gives_out}
 use Rattle.dispatcher.specs.Machine.{State, Terms, run, serve, soonest, step, tell, unless}
 use Rattle.dispatcher.specs.Shown.{Shows}
 use Rattle.dispatcher.specs.Steps.{Fails, Simulates}
@@ -76,10 +76,10 @@ same_cycle {B} {M} e = ap (λ (d : Dispatcher B M). d.cycle) e
 
 -- a count after an event
 abbrev pub told_count : {M : Type 0} → ℕ → Event M → ℕ
-told_count n a = cond (gives-out a) (one_more n) n
+told_count n a = cond (gives_out a) (one_more n) n
 
 -- a call that gives nothing out counts nothing
-pub quiet : {M X : Type 0} (n : ℕ) (c : Call M) (accepted : X → Event M) (r : Result X Refusal) → ((x : X) → gives-out (accepted x) ≡ false) → told_count n (answered c accepted r) ≡ n
+pub quiet : {M X : Type 0} (n : ℕ) (c : Call M) (accepted : X → Event M) (r : Result X Refusal) → ((x : X) → gives_out (accepted x) ≡ false) → told_count n (answered c accepted r) ≡ n
 quiet n c accepted (Ok x) q = ap (λ t. cond t (one_more n) n) (q x)
 quiet n c accepted (Err k) q = refl
 
@@ -92,19 +92,19 @@ min_one_more : (x n : ℕ) → n ≡ min x 4000000000 → one_more n ≡ min (x 
 min_one_more x n e = omega arith
 
 pub count_more : {M : Type 0} (h : History M) (a : Event M) (n : ℕ) → n ≡ given_out h → told_count n a ≡ given_out (h ++ a ∷ [])
-count_more h a n e = go (gives-out a) refl
+count_more h a n e = go (gives_out a) refl
   where
-    push : (t : Bool) → gives-out a ≡ t → count_by gives-out (h ++ a ∷ []) ≡ count_by gives-out h + cond t 1 0
-    push t f = sum_by_push (λ x. cond (gives-out x) 1 0) h a ∙ ap (λ t. count_by gives-out h + cond t 1 0) f
+    push : (t : Bool) → gives_out a ≡ t → count_by gives_out (h ++ a ∷ []) ≡ count_by gives_out h + cond t 1 0
+    push t f = sum_by_push (λ x. cond (gives_out x) 1 0) h a ∙ ap (λ t. count_by gives_out h + cond t 1 0) f
 
-    go : (t : Bool) → gives-out a ≡ t → cond t (one_more n) n ≡ given_out (h ++ a ∷ [])
-    go true f = min_one_more (count_by gives-out h) n e ∙ ap (λ k. min k 4000000000) (sym (push true f))
+    go : (t : Bool) → gives_out a ≡ t → cond t (one_more n) n ≡ given_out (h ++ a ∷ [])
+    go true f = min_one_more (count_by gives_out h) n e ∙ ap (λ k. min k 4000000000) (sym (push true f))
     go false f = let p = push false f in e ∙ ap (λ k. min k 4000000000) (omega arith)
 
 count_join : {M : Type 0} (h k : History M) (n : ℕ) → 0 ≡ given_out h → n ≡ given_out k → n ≡ given_out (h ++ k)
 count_join h k n z e =
-    let j = sum_by-append (λ x. cond (gives-out x) 1 0) h k in
-    let none : count_by gives-out h ≡ 0 = omega arith in
+    let j = sum_by-append (λ x. cond (gives_out x) 1 0) h k in
+    let none : count_by gives_out h ≡ 0 = omega arith in
     e ∙ ap (λ x. min x 4000000000) (omega arith)
 
 module _ {B M : Type 0} (trays : B → List (List (Cell M))) (each all : B → ℕ) (interval : M → ℕ) where

@@ -13,7 +13,7 @@ use Rattle.dispatcher.specs.Machine.{State, Terms, first_of, is_empty}
 use Rattle.dispatcher.specs.Shown.{Shows}
 use Rattle.dispatcher.specs.Steps.{Fails}
 use Rattle.dispatcher.specs.Views.{view}
-use Rattle.dispatcher.specs.WholeRuns.{Lawful-call}
+use Rattle.dispatcher.specs.WholeRuns.{LawfulCall}
 use Rattle.phases.specs.declared.phase.Detect.{Detect}
 use Rattle.phases.specs.declared.phase.NextCycle.{NextCycle}
 use Rattle.phases.specs.declared.phase.Output.{Output}
@@ -48,7 +48,7 @@ module _ {B M : Type 0} (trays : B → List (List (Cell M))) (each all : B → �
   -- the call c through a phase of the cycle z: refused with a dispatcher in another cycle, and else the dispatcher's own call
   pub record Called {X : Type 0} (z : ℕ) (before after : Dispatcher B M) (c : Call M) (accepted : X → Event M) (r : Result X Refusal) : Type 0 where
     pub another_cycle : (before.cycle ≢ z) → r ≡ Err OutOfPhase
-    pub own_call : before.cycle ≡ z → Lawful-call trays each all interval before after c (answered c accepted r)
+    pub own_call : before.cycle ≡ z → LawfulCall trays each all interval before after c (answered c accepted r)
     pub same : Fails r → after ≡ before
 
   -- leaving the report phase p: the dispatcher has to be in its cycle and open, and no late entry may wait

@@ -9,7 +9,7 @@ use Rattle.dispatcher.specs.declared.call.Call.{Call}
 use Rattle.dispatcher.specs.declared.call.Call.TheVariants.{Dispatch, Name, Post, Turn, Warn}
 use Rattle.dispatcher.specs.declared.dispatcher.Dispatcher.{Dispatcher}
 use Rattle.dispatcher.specs.declared.event.Event.TheVariants.{Refused as Refused-call}
-use Rattle.dispatcher.specs.History.{History, gives-out}
+use Rattle.dispatcher.specs.History.{History, gives_out}
 use Rattle.dispatcher.specs.Machine.{State, Terms, first_of, is_empty, run}
 use Rattle.dispatcher.specs.Views.{View, view}
 use Rattle.dispatcher.specs.WholeRuns.{Led, Obeys}
@@ -43,7 +43,7 @@ pub record LedOn {M : Type 0} (b : Terms M) (w : View M) (calls : List (Call M))
 
 -- how many entries the calls gave out, as a phase counts them
 abbrev pub given_out : {M : Type 0} → History M → ℕ
-given_out h = min (count_by gives-out h) 4000000000
+given_out h = min (count_by gives_out h) 4000000000
 
 -- the calls led on to w, which is still in the cycle z, and gave n entries out
 pub record Stays {M : Type 0} (b : Terms M) (w : View M) (calls : List (Call M)) (h : History M) (z n : ℕ) : Type 0 where

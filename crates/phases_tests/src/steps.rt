@@ -3,7 +3,7 @@
 use banks::bank::Bank;
 use banks::cell::Cell;
 use dispatcher::dispatcher::Dispatcher;
-use dispatcher::entry::{Entry, EntryDebug, EntryPartialEq, Slip, SlipDebug, SlipPartialEq};
+use dispatcher::entry::{Entry, Slip};
 use messages::note::{Note, NoteKind};
 use messages::refusal::Refusal;
 use phases::phase::{Detect, NextCycle, Output, React, Report};

@@ -1,7 +1,7 @@
 // The detect phase: used to post messages, and left for the react phase.
 ghost use Rattle.std.specs.Prelude.{◌≡◌};
 ghost use Rattle.dispatcher.specs.Answers.{entered};
-ghost use Rattle.dispatcher.specs.Steps.{Takes-when-empty};
+ghost use Rattle.dispatcher.specs.Steps.{TakesWhenEmpty};
 ghost use Rattle.dispatcher.specs.declared.call.Call.TheVariants.{Post};
 ghost use Rattle.dispatcher.specs.declared.event.Event.TheVariants.{Posted};
 ghost use Rattle.phases.specs.Calls.{Called};
@@ -23,7 +23,7 @@ impl Detect {
     where
         B::Item: Timed,
         ensures call { Called B.Trays.trays B.Trays.tray_limit B.Trays.total_limit B.Item.Timed.interval self.now.cycle dispatcher.old dispatcher.new (Post message) (λ p. Posted (entered p message)) result }
-        ensures room { dispatcher.old.cycle ≡ self.now.cycle → Takes-when-empty B.Trays.trays B.Trays.tray_limit B.Trays.total_limit B.Item.Timed.interval dispatcher.old message result }
+        ensures room { dispatcher.old.cycle ≡ self.now.cycle → TakesWhenEmpty B.Trays.trays B.Trays.tray_limit B.Trays.total_limit B.Item.Timed.interval dispatcher.old message result }
     {
         if dispatcher.cycle() != self.cycle {
             return Err(Refusal::OutOfPhase);

@@ -1,7 +1,7 @@
 // The report phase: begun, used to name the late entries, and left or finished.
 ghost use Rattle.std.specs.Prelude.{◌≡◌, IfOk};
 ghost use Rattle.dispatcher.specs.Steps.{Fails};
-ghost use Rattle.dispatcher.specs.WholeRuns.{Lawful-call};
+ghost use Rattle.dispatcher.specs.WholeRuns.{LawfulCall};
 ghost use Rattle.dispatcher.specs.Answers.{answered};
 ghost use Rattle.dispatcher.specs.declared.call.Call.TheVariants.{Begin, Name};
 ghost use Rattle.dispatcher.specs.declared.event.Event.TheVariants.{Begun, Named};
@@ -20,7 +20,7 @@ impl Report {
     pub fn begin<B: Bank>(dispatcher: &mut Dispatcher<B>) -> Result<Report, Refusal>
     where
         B::Item: Timed,
-        ensures lawful { Lawful-call B.Trays.trays B.Trays.tray_limit B.Trays.total_limit B.Item.Timed.interval dispatcher.old dispatcher.new Begin (answered Begin (λ _. Begun) result) }
+        ensures lawful { LawfulCall B.Trays.trays B.Trays.tray_limit B.Trays.total_limit B.Item.Timed.interval dispatcher.old dispatcher.new Begin (answered Begin (λ _. Begun) result) }
         ensures same { Fails result → dispatcher.new ≡ dispatcher.old }
         ensures phase { IfOk result (λ p. p.cycle ≡ dispatcher.new.cycle) }
     {
