@@ -1,7 +1,7 @@
-use Rattle.std.proofs.Common.{◌≡◌, ℕ, ◌+◌, ◌*◌, ◌<◌, ◌≤◌, ◌⊎◌, length, set, Ok, Err, Result, sym, refl, ap, ◌∙◌, inl, inr, arith, rules}
+use Rattle.std.proofs.Common.{◌≡◌, ℕ, ◌<◌, length, set, Ok, Err, Result, refl, ap, ◌∙◌, inl, inr, arith, rules}
 use Rattle.messages.specs.declared.refusal.Refusal.{Refusal}
-use Rattle.rows.proofs.Turns.{row_count, row_holds, row_place, row_room, put_step, same_product}
-use Rattle.rows.specs.Rings.{row_trays, head_at}
+use Rattle.rows.proofs.Turns.{row_count, row_holds, row_room, put_step, same_product}
+use Rattle.rows.specs.Rings.{head_at}
 use Rattle.rows.proofs.row_bank.calls.RowBankBank.put.Goals as goal
 
 refused : {r : Refusal} → ◌≡◌ {A = Result (Unit {0}) Refusal} (Err r) (Ok tt) → ◌≡◌ {A = ℕ} 0 1
@@ -23,8 +23,8 @@ returns-then-count-limit g c =
 in_table : (g : _) → (c : goal.After-end-place g) → c.end-place.result < length c.args.self.now.cells.now
 in_table g c = let e = c.end-place.ensures.inside in omega (arith, c.args.self.now.fits)
 
-pub offset-bounds-self-place : goal.offset-bounds-self-place
-offset-bounds-self-place g c = let l = in_table g c in search rules
+pub offset_bounds-self-place : goal.offset_bounds-self-place
+offset_bounds-self-place g c = let l = in_table g c in search rules
 
 pub bounds-self-place : goal.bounds-self-place
 bounds-self-place g c = in_table g c
