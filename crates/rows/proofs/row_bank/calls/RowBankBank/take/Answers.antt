@@ -1,4 +1,4 @@
-use Rattle.std.proofs.Common.{◌<◌, length, Some, sym, refl, ap, ◌∙◌, arith, rules}
+use Rattle.std.proofs.Common.{Some, sym, refl, ap, ◌∙◌, arith}
 use Rattle.std.proofs.lemmas.List.{nil_from_length}
 use Rattle.banks.proofs.Cells.{take_none}
 use Rattle.rows.proofs.Turns.{row_holds, row_exists, take_step, same_product}
@@ -16,15 +16,6 @@ pub start-place-requires : goal.start-place-requires
 start-place-requires g c =
     let b = c.args.self.now in
     row_exists b.cells.now b.rows.limit b.rows.trays b.rows.heads c.args.tray (omega arith)
-
-in_table : (g : _) → (c : goal.After-start-place g) → c.start-place.result < length c.args.self.now.cells.now
-in_table g c = let e = c.start-place.ensures.inside in omega (arith, c.args.self.now.fits)
-
-pub offset_bounds-self-place : goal.offset_bounds-self-place
-offset_bounds-self-place g c = let l = in_table g c in search rules
-
-pub bounds-self-place : goal.bounds-self-place
-bounds-self-place g c = in_table g c
 
 pub shrink-requires : goal.shrink-requires
 shrink-requires g c =
