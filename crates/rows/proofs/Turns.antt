@@ -1,14 +1,14 @@
 -- What a put and a take do to rings that lie side by side in one table.
-use Rattle.std.proofs.Common.{◌≡◌, ℕ, zero, suc, ◌+◌, ◌-◌, ◌*◌, ◌/◌, ◌%◌, ◌<◌, ◌≤◌, ◌⊎◌, List, [], ◌∷◌, ◌++◌, length, get_or, take, drop, set, replicate, Some, None, sym, refl, ap, ◌∙◌, inl, inr, append_assoc, append-nil, add-zero, mul-le-mul_right, mod-lt, suc-mul, lt_of_mul-lt-mul_right, div-add-mod', zero-add, zero-mul, add-one, arith, length-append, length-set}
+use Rattle.std.proofs.Common.{◌≡◌, ℕ, zero, suc, ◌+◌, ◌-◌, ◌*◌, ◌/◌, ◌%◌, ◌<◌, ◌≤◌, ◌⊎◌, List, [], ◌∷◌, ◌++◌, length, get_or, take, set, replicate, Some, sym, refl, ap, ◌∙◌, inl, inr, append_assoc, append-nil, add-zero, mul-le-mul_right, mod-lt, suc-mul, lt_of_mul-lt-mul_right, div-add-mod', zero-add, zero-mul, add-one, arith, length-append}
 use native.Mathlib.Nat.{mod-mod, mod-add-mod}
 use Rattle.rows.specs.declared.head.Head.{Head}
 use Rattle.rows.specs.Rings.{no_head, head_at, ring, rings, counted, row_trays}
-use Rattle.std.proofs.lemmas.List.{length-take, get_or-take, set-get_or, get_or_past, set_past, nil_from_length, take-replicate}
+use Rattle.std.proofs.lemmas.List.{length-take, get_or-take, get_or_past, take-replicate}
 use Rattle.std.proofs.lemmas.Bool.{cases_lt, cases_order}
-use Rattle.rows.specs.RowLaws.{rings_length, rings_at, counted_within, ring_at_most, held_at_most, within_front}
+use Rattle.rows.specs.RowLaws.{rings_length, rings_at, counted_within, held_at_most, within_front}
 use Rattle.banks.proofs.Cells.{cell_one, cell_other, cell_read, cell_same, take_set}
 use Rattle.banks.specs.Tables.{cell_at}
-use Rattle.banks.specs.Trays.{tray_at, held_in, first_of, without_first, HasRoom, NoRoom}
+use Rattle.banks.specs.Trays.{tray_at, held_in, first_of, without_first}
 
 -- heads
 

@@ -1,5 +1,5 @@
 -- Trays that are rings, each in a row of its own, side by side in one table of cells.
-use Rattle.std.specs.Prelude.{◌≡◌, ℕ, zero, suc, ◌+◌, ◌*◌, ◌/◌, ◌%◌, ◌≤◌, min, cond, List, [], ◌∷◌, ◌++◌, length, take, ◌==◌, nat_le, slice_index_or}
+use Rattle.std.specs.Prelude.{ℕ, zero, suc, ◌+◌, ◌/◌, ◌%◌, min, cond, List, [], ◌∷◌, ◌++◌, take, ◌==◌, nat_le, slice_index_or}
 use Rattle.banks.specs.Tables.{cell_at}
 use Rattle.rows.specs.declared.head.Head.{Head}
 

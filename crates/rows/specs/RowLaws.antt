@@ -1,6 +1,6 @@
 -- That the trays of a row bank keep the laws of a bank.
-use Rattle.std.specs.Prelude.{◌≡◌, ℕ, zero, suc, ◌+◌, ◌*◌, ◌%◌, ◌<◌, ◌≤◌, List, [], ◌∷◌, ◌++◌, length, get_or, take, refl}
-use Rattle.std.proofs.Common.{sym, ap, ◌∙◌, add-zero, zero-mul, suc-mul, mul-le-mul_right, mul-pos, arith, length-append, length-take}
+use Rattle.std.specs.Prelude.{◌≡◌, ℕ, zero, suc, ◌+◌, ◌*◌, ◌%◌, ◌<◌, ◌≤◌, List, [], ◌∷◌, length, take, refl}
+use Rattle.std.proofs.Common.{ap, ◌∙◌, add-zero, zero-mul, suc-mul, mul-le-mul_right, mul-pos, arith, length-append, length-take}
 use Rattle.rows.specs.declared.head.Head.{Head}
 use Rattle.rows.specs.Rings.{head_at, ring, rings, counted, row_trays}
 use Rattle.banks.specs.Tables.{cell_at}

@@ -10,5 +10,5 @@ returns c =
     record {
       place = refl;
       inside = row_place c.args.tray s.trays s.limit (s.trays * s.limit) (h.first + h.count) (omega arith) (omega arith) (s.some (omega arith));
-      free = row_free s.heads s.limit c.args.tray c.requires.1;
+      free = row_free s.heads s.limit c.args.tray c.requires.tray_bound;
     }

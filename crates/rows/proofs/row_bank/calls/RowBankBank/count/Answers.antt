@@ -1,4 +1,4 @@
-use Rattle.std.proofs.Common.{◌<◌, ◌≤◌, length, sym, ap, ◌∙◌, arith}
+use Rattle.std.proofs.Common.{◌<◌, length, sym, ap, ◌∙◌, arith}
 use Rattle.rows.proofs.Turns.{row_holds, row_past}
 use Rattle.rows.proofs.row_bank.calls.RowBankBank.count.Goals as goal
 

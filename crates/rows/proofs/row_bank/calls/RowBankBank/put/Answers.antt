@@ -1,7 +1,7 @@
-use Rattle.std.proofs.Common.{◌≡◌, ℕ, ◌+◌, ◌*◌, ◌<◌, ◌≤◌, ◌⊎◌, length, set, Ok, Err, Result, sym, refl, ap, ◌∙◌, inl, inr, arith, rules}
+use Rattle.std.proofs.Common.{◌≡◌, ℕ, ◌<◌, set, Ok, Err, Result, refl, ap, ◌∙◌, inl, inr, arith}
 use Rattle.messages.specs.declared.refusal.Refusal.{Refusal}
-use Rattle.rows.proofs.Turns.{row_count, row_holds, row_place, row_room, put_step, same_product}
-use Rattle.rows.specs.Rings.{row_trays, head_at}
+use Rattle.rows.proofs.Turns.{row_count, row_holds, row_room, put_step, same_product}
+use Rattle.rows.specs.Rings.{head_at}
 use Rattle.rows.proofs.row_bank.calls.RowBankBank.put.Goals as goal
 
 refused : {r : Refusal} → ◌≡◌ {A = Result (Unit {0}) Refusal} (Err r) (Ok tt) → ◌≡◌ {A = ℕ} 0 1
@@ -19,15 +19,6 @@ returns-then-count-limit g c =
     let n = row_count b.cells.now b.rows.limit b.rows.trays b.rows.heads (omega arith) in
     let h = row_holds b.cells.now b.rows.limit b.rows.trays b.rows.heads c.args.tray (omega arith) (b.rows.some (omega arith)) b.fits in
     record { puts = record { absent = λ l. absurd (omega arith); full = λ _ _. (refl, refl); placed = λ _ room. absurd (omega arith); limits = (refl, refl) }; fills = λ e. absurd (let z : ◌≡◌ {A = ℕ} 0 1 = refused e in omega arith); lent = refl }
-
-in_table : (g : _) → (c : goal.After-end-place g) → c.end-place.result < length c.args.self.now.cells.now
-in_table g c = let e = c.end-place.ensures.inside in omega (arith, c.args.self.now.fits)
-
-pub offset-bounds-self-place : goal.offset-bounds-self-place
-offset-bounds-self-place g c = let l = in_table g c in search rules
-
-pub bounds-self-place : goal.bounds-self-place
-bounds-self-place g c = in_table g c
 
 pub returns : goal.returns
 returns g c =

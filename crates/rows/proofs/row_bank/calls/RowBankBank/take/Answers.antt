@@ -1,8 +1,8 @@
-use Rattle.std.proofs.Common.{◌≡◌, ◌+◌, ◌*◌, ◌<◌, ◌≤◌, length, Some, sym, refl, ap, ◌∙◌, arith, rules}
+use Rattle.std.proofs.Common.{Some, sym, refl, ap, ◌∙◌, arith}
 use Rattle.std.proofs.lemmas.List.{nil_from_length}
 use Rattle.banks.proofs.Cells.{take_none}
-use Rattle.rows.proofs.Turns.{row_holds, row_place, row_exists, take_step, same_product}
-use Rattle.rows.specs.Rings.{row_trays, head_at}
+use Rattle.rows.proofs.Turns.{row_holds, row_exists, take_step, same_product}
+use Rattle.rows.specs.Rings.{row_trays}
 use Rattle.rows.proofs.row_bank.calls.RowBankBank.take.Goals as goal
 
 pub returns-then-count-eq0 : goal.returns-then-count-eq0
@@ -17,21 +17,12 @@ start-place-requires g c =
     let b = c.args.self.now in
     row_exists b.cells.now b.rows.limit b.rows.trays b.rows.heads c.args.tray (omega arith)
 
-in_table : (g : _) → (c : goal.After-start-place g) → c.start-place.result < length c.args.self.now.cells.now
-in_table g c = let e = c.start-place.ensures.inside in omega (arith, c.args.self.now.fits)
-
-pub offset-bounds-self-place : goal.offset-bounds-self-place
-offset-bounds-self-place g c = let l = in_table g c in search rules
-
-pub bounds-self-place : goal.bounds-self-place
-bounds-self-place g c = in_table g c
-
 pub shrink-requires : goal.shrink-requires
 shrink-requires g c =
     let b = c.args.self.now in
     let l = row_exists b.cells.now b.rows.limit b.rows.trays b.rows.heads c.args.tray (omega arith) in
     let h = row_holds b.cells.now b.rows.limit b.rows.trays b.rows.heads c.args.tray l (b.rows.some (omega arith)) b.fits in
-    (l, omega arith)
+    record { tray_lt_trays = l; count_nonzero = omega arith }
 
 pub returns : goal.returns
 returns g c =
