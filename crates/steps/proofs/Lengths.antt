@@ -1,5 +1,5 @@
 -- How long lawful files are, and that all their numbers are bytes.
-use Rattle.std.proofs.Common.{◌≡◌, ℕ, ◌+◌, ◌*◌, ◌<◌, ◌≤◌, ◌⊎◌, List, [], ◌∷◌, ◌++◌, length, sym, refl, ap, ◌∙◌, subst, inl, inr, ⊎_elim, arith, length-append, rules}
+use Rattle.std.proofs.Common.{◌≡◌, ℕ, ◌+◌, ◌*◌, ◌<◌, ◌≤◌, List, [], ◌∷◌, ◌++◌, length, refl, ap, ◌∙◌, ⊎_elim, arith, length-append, rules}
 use Rattle.std.specs.List.{flat_map, AllByRecursion as All}
 use Rattle.steps.specs.declared.header.BankKind.{BankKind}
 use Rattle.steps.specs.declared.header.BankKind.TheVariants.{Row, Chain}
@@ -8,7 +8,7 @@ use Rattle.steps.specs.declared.header.MessageType.{MessageType}
 use Rattle.steps.specs.declared.header.MessageType.TheVariants as type
 use Rattle.steps.specs.declared.step.Step.{Step}
 use Rattle.steps.specs.declared.step.Step.TheVariants.{Post, Dispatch, Turn, Name, Warn}
-use Rattle.steps.specs.Lawful.{Lawful, LawfulOf, Says}
+use Rattle.steps.specs.Lawful.{Lawful, LawfulOf}
 use Rattle.steps.specs.Layout.{Byte, EnoughTrays, Format, bank_number, file_bytes, header_bytes, step_bytes, type_number}
 
 pub all_front : {X : Type 0} (P : X → Type 0) (xs ys : List X) → All P (xs ++ ys) → All P xs

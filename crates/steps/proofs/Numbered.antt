@@ -1,7 +1,6 @@
 -- Records with a bare step, and those with a number, are just the lists of bytes within their ranges.
-use Rattle.std.proofs.Common.{◌≡◌, ℕ, ◌+◌, ◌*◌, ◌/◌, ◌%◌, ◌<◌, ◌≤◌, List, [], ◌∷◌, ◌++◌, get_or, replicate, Err, sym, refl, subst, arith, rules}
+use Rattle.std.proofs.Common.{◌≡◌, ℕ, ◌+◌, ◌*◌, ◌<◌, List, get_or, Err, sym, refl, subst, rules}
 use Rattle.std.specs.List.{AllByRecursion as All}
-use Rattle.steps.specs.declared.ranges.ByteRange.{ByteRange}
 use Rattle.steps.specs.Layout.{Byte, bare_bytes, numbered_bytes}
 use Rattle.steps.specs.Ranges.{Cut, Within}
 use Rattle.steps.specs.Tables.{ranges_of_bare, ranges_of_numbered}

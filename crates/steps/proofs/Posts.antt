@@ -1,5 +1,5 @@
 -- Posts of each type are just the lists of bytes within the ranges of such a post.
-use Rattle.std.proofs.Common.{◌≡◌, ℕ, ◌+◌, ◌*◌, ◌/◌, ◌%◌, ◌<◌, ◌≤◌, List, [], ◌∷◌, length, get_or, Err, sym, refl, subst, ⊎_elim, arith, rules}
+use Rattle.std.proofs.Common.{◌≡◌, ℕ, ◌+◌, ◌*◌, ◌≤◌, List, ◌∷◌, get_or, Err, sym, refl, subst, ⊎_elim, arith, rules}
 use Rattle.std.proofs.lemmas.Bool.{cases_eq}
 use Rattle.std.specs.List.{AllByRecursion as All}
 use Rattle.messages.specs.declared.pen.PenMessage.{PenMessage}
@@ -9,7 +9,6 @@ use Rattle.messages.specs.declared.note.Note.{Note}
 use Rattle.messages.specs.declared.note.NoteKind.{NoteKind}
 use Rattle.messages.specs.declared.note.NoteKind.TheVariants.{PageKey, RaisedHand, Tilt}
 use Rattle.messages.specs.Notes.{kind_number}
-use Rattle.steps.specs.declared.ranges.ByteRange.{ByteRange}
 use Rattle.steps.specs.Formats.{note_format, note_laid, pen_format, pen_laid, stage_byte}
 use Rattle.steps.specs.Layout.{Byte}
 use Rattle.steps.specs.Ranges.{Cut, Within}

@@ -1,10 +1,9 @@
 -- What one more call of the reader means for the whole file.
-use Rattle.std.proofs.Common.{◌≡◌, ℕ, ◌+◌, ◌-◌, ◌*◌, ◌<◌, ◌≤◌, ◌⊎◌, List, [], ◌∷◌, ◌++◌, length, get_or, take, drop, Err, sym, refl, ap, ◌∙◌, subst, arith, length-drop, length-take, take-add}
+use Rattle.std.proofs.Common.{◌≡◌, ℕ, ◌+◌, ◌*◌, ◌<◌, ◌≤◌, ◌⊎◌, List, [], ◌∷◌, ◌++◌, length, get_or, take, drop, Err, sym, ap, ◌∙◌, subst, arith, length-drop, length-take, take-add}
 use Rattle.std.proofs.ByRecursion.{All-append}
 use Rattle.std.proofs.lemmas.List.{flat_map_more, take_all, take-append-drop, length-take-le}
 use Rattle.std.specs.List.{AllByRecursion as All}
 use Rattle.messages.specs.declared.refusal.Refusal.TheVariants.{BadRecord}
-use Rattle.steps.specs.declared.fault.Fault.{Fault}
 use Rattle.steps.specs.declared.records.Records.{Records}
 use Rattle.steps.specs.declared.step.Step.{Step}
 use Rattle.steps.specs.Lawful.{Faulty, Lawful, LawfulOf, Says, longest}

@@ -1,5 +1,5 @@
 -- Where a file stops being lawful: from where one header or record stops to where the whole file does.
-use Rattle.std.proofs.Common.{◌≡◌, ℕ, ◌+◌, ◌*◌, ◌<◌, ◌≤◌, ◌⊎◌, List, [], ◌∷◌, ◌++◌, length, get_or, Err, sym, refl, ap, ◌∙◌, subst, inl, inr, ⊎_elim, append_assoc, arith, length-append, rules}
+use Rattle.std.proofs.Common.{◌≡◌, ℕ, ◌+◌, ◌*◌, ◌<◌, ◌≤◌, ◌⊎◌, List, [], ◌∷◌, ◌++◌, length, get_or, Err, sym, refl, ap, ◌∙◌, subst, inl, inr, ⊎_elim, append_assoc, arith, length-append}
 use Rattle.std.proofs.ByRecursion.{All-append}
 use Rattle.std.proofs.lemmas.List.{flat_map_more, length_push}
 use Rattle.std.proofs.lemmas.Bool.{cases_lt}
@@ -9,11 +9,11 @@ use Rattle.steps.specs.declared.header.Header.{Header}
 use Rattle.steps.specs.declared.header.MessageType.{MessageType}
 use Rattle.steps.specs.declared.header.MessageType.TheVariants as type
 use Rattle.steps.specs.declared.step.Step.{Step}
-use Rattle.steps.specs.Beginnings.{Longest, common}
+use Rattle.steps.specs.Beginnings.{common}
 use Rattle.steps.specs.Formats.{note_format, pen_format}
-use Rattle.steps.specs.Lawful.{Faulty, Lawful, LawfulOf, Says, longest}
+use Rattle.steps.specs.Lawful.{Faulty, Lawful, LawfulOf, longest}
 use Rattle.steps.specs.Layout.{Byte, EnoughTrays, Format, file_bytes, header_bytes, step_bytes, type_number}
-use Rattle.steps.specs.Reading.{IsHeader, IsStep, Reads, SomeIs}
+use Rattle.steps.specs.Reading.{IsHeader, IsStep, Reads}
 use Rattle.steps.proofs.Alike.{common_after, common_blocks, common_fits, common_front, common_reads, common_whole}
 use Rattle.steps.proofs.Lengths.{all_back, all_front, file_length, header_all_bytes, lawful_length, step_length}
 

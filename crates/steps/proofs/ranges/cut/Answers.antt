@@ -1,4 +1,4 @@
-use Rattle.std.proofs.Common.{◌≡◌, ◌-◌, ◌≤◌, length, take, sym, ap, ◌∙◌, subst, arith}
+use Rattle.std.proofs.Common.{◌≡◌, ◌-◌, ◌≤◌, length, take, sym, ap, subst, arith}
 use Rattle.steps.specs.Ranges.{Within, inside}
 use Rattle.steps.proofs.Insides.{inside_all, inside_few, inside_fits}
 use Rattle.steps.proofs.ranges.cut.Goals as goal
