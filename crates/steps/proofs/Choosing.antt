@@ -1,12 +1,11 @@
 -- The first byte of a record chooses its step: records of other steps begin otherwise at once.
-use Rattle.std.proofs.Common.{◌≡◌, ℕ, ◌<◌, ◌≤◌, List, [], ◌∷◌, ◌++◌, length, get_or, take, replicate, Ok, Err, sym, refl, ap, ◌∙◌, subst, ⊎_elim, arith, Bor, rules}
+use Rattle.std.proofs.Common.{◌≡◌, ℕ, ◌<◌, ◌≤◌, List, [], ◌∷◌, length, get_or, take, Ok, Err, sym, refl, ap, ◌∙◌, subst, ⊎_elim, arith, Bor, rules}
 use Rattle.std.proofs.lemmas.Bool.{cases_eq}
-use Rattle.std.specs.List.{AllByRecursion as All}
 use Rattle.steps.specs.declared.ranges.ByteRange.{ByteRange}
 use Rattle.steps.specs.declared.step.Step.{Step}
 use Rattle.steps.specs.declared.step.Step.TheVariants.{Post, Dispatch, Turn, Name, Warn}
-use Rattle.steps.specs.Beginnings.{common, Longest}
-use Rattle.steps.specs.Layout.{Byte, Format, bare_bytes, step_bytes}
+use Rattle.steps.specs.Beginnings.{common}
+use Rattle.steps.specs.Layout.{Format, bare_bytes, step_bytes}
 use Rattle.steps.specs.Ranges.{Cut, Within, inside}
 use Rattle.steps.specs.Tables.{ranges_of_first}
 use Rattle.steps.specs.Reading.{IsBare, IsNumbered, IsPost, IsStep, Reads, SomeIs}

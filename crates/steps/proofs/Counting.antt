@@ -1,5 +1,5 @@
 -- Reading on to the end of a file, one record after another.
-use Rattle.std.proofs.Common.{◌≡◌, ℕ, ◌+◌, ◌-◌, ◌*◌, ◌<◌, ◌≤◌, List, [], ◌∷◌, ◌++◌, length, take, drop, sym, refl, ap, ◌∙◌, subst, append_assoc, append-nil, arith, length-drop, length-take}
+use Rattle.std.proofs.Common.{◌≡◌, ℕ, ◌+◌, ◌-◌, ◌*◌, ◌<◌, List, [], ◌∷◌, ◌++◌, length, sym, refl, ap, ◌∙◌, subst, append_assoc, append-nil, arith}
 use Rattle.std.proofs.lemmas.List.{length_push}
 use Rattle.steps.specs.declared.fault.Fault.{Fault}
 use Rattle.steps.specs.declared.header.Header.{Header}
@@ -10,7 +10,6 @@ use Rattle.steps.specs.Lawful.{Faulty, Says}
 use Rattle.steps.specs.Layout.{Format}
 use Rattle.steps.specs.Opening.{Holds}
 use Rattle.steps.specs.Progress.{Gives, HasRead}
-use Rattle.steps.proofs.Lengths.{step_length}
 
 -- n records have been read since the start
 pub record Counted {M : Type 0} (f : Format M) (start here : Records M) (n : ℕ) : Type 0 where

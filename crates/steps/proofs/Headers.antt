@@ -1,7 +1,6 @@
 -- The headers are just the lists of bytes within the header's ranges.
-use Rattle.std.proofs.Common.{◌≡◌, ℕ, suc, ◌+◌, ◌<◌, ◌≤◌, Bool, true, false, cond, ◌&&◌, eqb, List, [], ◌∷◌, length, get_or, Err, sym, refl, ap, ◌∙◌, subst, ⊎_elim, arith, rules}
+use Rattle.std.proofs.Common.{◌≡◌, ℕ, ◌≤◌, List, get_or, Err, sym, refl, subst, ⊎_elim, arith, rules}
 use Rattle.std.proofs.lemmas.Bool.{cases_eq}
-use Rattle.steps.specs.declared.ranges.ByteRange.{ByteRange}
 use Rattle.steps.specs.declared.header.MessageType.{MessageType}
 use Rattle.steps.specs.declared.header.MessageType.TheVariants as type
 use Rattle.steps.specs.declared.header.BankKind.{BankKind}

@@ -1,8 +1,8 @@
 -- Bytes in their ranges: how far a list stays inside is how far some list that lies within begins alike.
-use Rattle.std.proofs.Common.{◌≡◌, ℕ, suc, ◌+◌, ◌<◌, ◌≤◌, Bool, true, false, cond, ◌&&◌, eqb, leb, List, [], ◌∷◌, length, get_or, take, drop, Err, sym, refl, ap, ◌∙◌, subst, ⊎_elim, arith}
-use Rattle.std.proofs.lemmas.Bool.{and_parts, and_cases, cases_Bool, cond-true, cond-false, cond_both, leb-true, leb-false, eqb-true, ne_eqb, eq-eqb, le-leb, and_from, true≢false}
+use Rattle.std.proofs.Common.{◌≡◌, ℕ, ◌+◌, ◌<◌, ◌≤◌, Bool, true, false, ◌&&◌, eqb, leb, List, [], ◌∷◌, length, get_or, take, drop, Err, sym, refl, ap, ◌∙◌, subst, ⊎_elim, arith}
+use Rattle.std.proofs.lemmas.Bool.{and_parts, cases_Bool, cond-true, cond-false, leb-true, eqb-true, le-leb, and_from, true≢false}
 use Rattle.std.proofs.lemmas.List.{drop_more, drop_all}
-use Rattle.std.specs.List.{AllByRecursion as All}
+use Rattle.std.specs.List.{AllByRecursion}
 use Rattle.steps.specs.declared.ranges.ByteRange.{ByteRange}
 use Rattle.steps.specs.Beginnings.{common, Longest}
 use Rattle.steps.specs.Layout.{Byte}
@@ -58,13 +58,13 @@ lows : List ByteRange → List ℕ
 lows [] = []
 lows (r ∷ rs) = r.low ∷ lows rs
 
-lows_within : (rs : List ByteRange) → All Sound rs → Within rs (lows rs)
+lows_within : (rs : List ByteRange) → AllByRecursion Sound rs → Within rs (lows rs)
 unfolding lows
 lows_within [] s = tt
 lows_within (r ∷ rs) s = ((omega arith, s.0.0), lows_within rs s.1)
 
 -- some list within its ranges begins like `bytes` for as long as these stay inside
-pub inside_shared : (rs : List ByteRange) → All Sound rs → (bs : List ℕ) → (g : List ℕ) × Within rs g × (common g bs ≡ inside rs bs)
+pub inside_shared : (rs : List ByteRange) → AllByRecursion Sound rs → (bs : List ℕ) → (g : List ℕ) × Within rs g × (common g bs ≡ inside rs bs)
 unfolding lows
 inside_shared [] s bs = ([], tt, refl)
 inside_shared (r ∷ rs) s [] = (r.low ∷ lows rs, ((omega arith, s.0.0), lows_within rs s.1), refl)
@@ -78,11 +78,11 @@ inside_shared (r ∷ rs) s (b ∷ bs) =
     (r.low ∷ lows rs, ((omega arith, s.0.0), lows_within rs s.1), common_apart r.low b (lows rs) bs apart ∙ sym (inside_out r rs b bs e)))
     (cases_Bool (holds r b))
 
-pub inside_longest : (rs : List ByteRange) → All Sound rs → (bs : List ℕ) → Longest (Within rs) bs (inside rs bs)
+pub inside_longest : (rs : List ByteRange) → AllByRecursion Sound rs → (bs : List ℕ) → Longest (Within rs) bs (inside rs bs)
 inside_longest rs s bs = record { shared = inside_shared rs s bs; most = λ g w. inside_most rs g bs w }
 
 -- what is cut short where the values of V are just the lists within the ranges
-pub cut_refused : {V : Type 0} {Is : V → List ℕ → Type 0} (rs : List ByteRange) → All Sound rs → ((g : List ℕ) → Within rs g → SomeIs Is g) → ((g : List ℕ) → SomeIs Is g → Within rs g) → (bs : List ℕ) (k : ℕ) → Cut rs bs (Err k) → Reads Is (length rs) bs (Err k)
+pub cut_refused : {V : Type 0} {Is : V → List ℕ → Type 0} (rs : List ByteRange) → AllByRecursion Sound rs → ((g : List ℕ) → Within rs g → SomeIs Is g) → ((g : List ℕ) → SomeIs Is g → Within rs g) → (bs : List ℕ) (k : ℕ) → Cut rs bs (Err k) → Reads Is (length rs) bs (Err k)
 cut_refused {V} {Is} rs s to from bs k c =
     (c.1, subst (Longest (SomeIs Is) bs) (sym c.0) (longest_same to from (inside_longest rs s bs)))
 
@@ -142,7 +142,7 @@ module _ (rs : List ByteRange) (bs : List ℕ) (i n : ℕ) (inv : i + inside (dr
   pub count_done : length rs ≤ i → i ≡ n
   count_done r = let s : inside (drop i rs) (drop i bs) ≡ 0 = ap (λ x. inside x (drop i bs)) (drop_all i rs r) in omega arith
 
-pub within_bytes : (rs : List ByteRange) → All Sound rs → (g : List ℕ) → Within rs g → All Byte g
+pub within_bytes : (rs : List ByteRange) → AllByRecursion Sound rs → (g : List ℕ) → Within rs g → AllByRecursion Byte g
 within_bytes [] s [] w = tt
 within_bytes [] s (b ∷ g) w = absurd w
 within_bytes (r ∷ rs) s [] w = absurd w

@@ -1,6 +1,6 @@
 -- How long lawful files are, and that all their numbers are bytes.
-use Rattle.std.proofs.Common.{◌≡◌, ℕ, ◌+◌, ◌*◌, ◌<◌, ◌≤◌, ◌⊎◌, List, [], ◌∷◌, ◌++◌, length, sym, refl, ap, ◌∙◌, subst, inl, inr, ⊎_elim, arith, length-append, rules}
-use Rattle.std.specs.List.{flat_map, AllByRecursion as All}
+use Rattle.std.proofs.Common.{◌≡◌, ℕ, ◌+◌, ◌*◌, ◌<◌, ◌≤◌, List, [], ◌∷◌, ◌++◌, length, refl, ap, ◌∙◌, ⊎_elim, arith, length-append, rules}
+use Rattle.std.specs.List.{flat_map, AllByRecursion}
 use Rattle.steps.specs.declared.header.BankKind.{BankKind}
 use Rattle.steps.specs.declared.header.BankKind.TheVariants.{Row, Chain}
 use Rattle.steps.specs.declared.header.Header.{Header}
@@ -8,14 +8,14 @@ use Rattle.steps.specs.declared.header.MessageType.{MessageType}
 use Rattle.steps.specs.declared.header.MessageType.TheVariants as type
 use Rattle.steps.specs.declared.step.Step.{Step}
 use Rattle.steps.specs.declared.step.Step.TheVariants.{Post, Dispatch, Turn, Name, Warn}
-use Rattle.steps.specs.Lawful.{Lawful, LawfulOf, Says}
+use Rattle.steps.specs.Lawful.{Lawful, LawfulOf}
 use Rattle.steps.specs.Layout.{Byte, EnoughTrays, Format, bank_number, file_bytes, header_bytes, step_bytes, type_number}
 
-pub all_front : {X : Type 0} (P : X → Type 0) (xs ys : List X) → All P (xs ++ ys) → All P xs
+pub all_front : {X : Type 0} (P : X → Type 0) (xs ys : List X) → AllByRecursion P (xs ++ ys) → AllByRecursion P xs
 all_front P [] ys a = tt
 all_front P (x ∷ xs) ys a = (a.0, all_front P xs ys a.1)
 
-pub all_back : {X : Type 0} (P : X → Type 0) (xs ys : List X) → All P (xs ++ ys) → All P ys
+pub all_back : {X : Type 0} (P : X → Type 0) (xs ys : List X) → AllByRecursion P (xs ++ ys) → AllByRecursion P ys
 all_back P [] ys a = a
 all_back P (x ∷ xs) ys a = all_back P xs ys a.1
 
@@ -27,7 +27,7 @@ small_bank : (b : BankKind) → bank_number b < 256
 small_bank Row = omega arith
 small_bank Chain = omega arith
 
-pub header_all_bytes : (h : Header) → EnoughTrays h → All Byte (header_bytes h)
+pub header_all_bytes : (h : Header) → EnoughTrays h → AllByRecursion Byte (header_bytes h)
 header_all_bytes h t = let a = small_type h.message_type in let b = small_bank h.bank in search rules
 
 module _ {M : Type 0} (f : Format M) where

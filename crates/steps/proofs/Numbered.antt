@@ -1,7 +1,6 @@
 -- Records with a bare step, and those with a number, are just the lists of bytes within their ranges.
-use Rattle.std.proofs.Common.{◌≡◌, ℕ, ◌+◌, ◌*◌, ◌/◌, ◌%◌, ◌<◌, ◌≤◌, List, [], ◌∷◌, ◌++◌, get_or, replicate, Err, sym, refl, subst, arith, rules}
-use Rattle.std.specs.List.{AllByRecursion as All}
-use Rattle.steps.specs.declared.ranges.ByteRange.{ByteRange}
+use Rattle.std.proofs.Common.{◌≡◌, ℕ, ◌+◌, ◌*◌, ◌<◌, List, get_or, Err, sym, refl, subst, rules}
+use Rattle.std.specs.List.{AllByRecursion}
 use Rattle.steps.specs.Layout.{Byte, bare_bytes, numbered_bytes}
 use Rattle.steps.specs.Ranges.{Cut, Within}
 use Rattle.steps.specs.Tables.{ranges_of_bare, ranges_of_numbered}
@@ -9,7 +8,7 @@ use Rattle.steps.specs.Reading.{IsBare, IsNumbered, Reads, SomeIs}
 use Rattle.steps.proofs.Insides.{cut_refused, Sound, within_bytes}
 
 module _ (step : ℕ) (small : step < 256) where
-  bare_sound : All Sound (ranges_of_bare step)
+  bare_sound : AllByRecursion Sound (ranges_of_bare step)
   bare_sound = search rules
 
   bare_within : (g : List ℕ) → Within (ranges_of_bare step) g → SomeIs (IsBare step) g
@@ -23,7 +22,7 @@ module _ (step : ℕ) (small : step < 256) where
   pub bare_refused : (bytes : List ℕ) (k : ℕ) → Cut (ranges_of_bare step) bytes (Err k) → Reads (IsBare step) 10 bytes (Err k)
   bare_refused bytes k c = cut_refused (ranges_of_bare step) bare_sound bare_within within_bare bytes k c
 
-  numbered_sound : All Sound (ranges_of_numbered step)
+  numbered_sound : AllByRecursion Sound (ranges_of_numbered step)
   numbered_sound = search rules
 
   numbered_said : (g : List ℕ) → Within (ranges_of_numbered step) g → (n : ℕ) → n ≡ get_or g 4 0 * 16777216 + get_or g 5 0 * 65536 + get_or g 6 0 * 256 + get_or g 7 0 → g ≡ numbered_bytes step n
@@ -36,7 +35,7 @@ module _ (step : ℕ) (small : step < 256) where
 
   within_numbered : (g : List ℕ) → SomeIs (IsNumbered step) g → Within (ranges_of_numbered step) g
   within_numbered g s =
-      let a : All Byte (numbered_bytes step s.0) = subst (All Byte) s.1.0 s.1.1 in
+      let a : AllByRecursion Byte (numbered_bytes step s.0) = subst (AllByRecursion Byte) s.1.0 s.1.1 in
       let w : Within (ranges_of_numbered step) (numbered_bytes step s.0) = search rules in
       subst (Within (ranges_of_numbered step)) (sym s.1.0) w
 

@@ -1,7 +1,7 @@
 -- Posts of each type are just the lists of bytes within the ranges of such a post.
-use Rattle.std.proofs.Common.{◌≡◌, ℕ, ◌+◌, ◌*◌, ◌/◌, ◌%◌, ◌<◌, ◌≤◌, List, [], ◌∷◌, length, get_or, Err, sym, refl, subst, ⊎_elim, arith, rules}
+use Rattle.std.proofs.Common.{◌≡◌, ℕ, ◌+◌, ◌*◌, ◌≤◌, List, ◌∷◌, get_or, Err, sym, refl, subst, ⊎_elim, arith, rules}
 use Rattle.std.proofs.lemmas.Bool.{cases_eq}
-use Rattle.std.specs.List.{AllByRecursion as All}
+use Rattle.std.specs.List.{AllByRecursion}
 use Rattle.messages.specs.declared.pen.PenMessage.{PenMessage}
 use Rattle.messages.specs.declared.pen.Stage.{Stage}
 use Rattle.messages.specs.declared.pen.Stage.TheVariants.{Down, Sample, Up}
@@ -9,7 +9,6 @@ use Rattle.messages.specs.declared.note.Note.{Note}
 use Rattle.messages.specs.declared.note.NoteKind.{NoteKind}
 use Rattle.messages.specs.declared.note.NoteKind.TheVariants.{PageKey, RaisedHand, Tilt}
 use Rattle.messages.specs.Notes.{kind_number}
-use Rattle.steps.specs.declared.ranges.ByteRange.{ByteRange}
 use Rattle.steps.specs.Formats.{note_format, note_laid, pen_format, pen_laid, stage_byte}
 use Rattle.steps.specs.Layout.{Byte}
 use Rattle.steps.specs.Ranges.{Cut, Within}
@@ -49,7 +48,7 @@ stage_bounds Up = (omega arith, omega arith)
 within_pen : (g : List ℕ) → SomeIs (IsPost pen_format) g → Within pen_ranges g
 within_pen g s =
     let b = stage_bounds s.0.stage in
-    let a : All Byte (1 ∷ pen_laid s.0) = subst (All Byte) s.1.0 s.1.1 in
+    let a : AllByRecursion Byte (1 ∷ pen_laid s.0) = subst (AllByRecursion Byte) s.1.0 s.1.1 in
     let w : Within pen_ranges (1 ∷ pen_laid s.0) = search rules in subst (Within pen_ranges) (sym s.1.0) w
 
 pub pen_refused : (bytes : List ℕ) (k : ℕ) → Cut pen_ranges bytes (Err k) → Reads (IsPost pen_format) 10 bytes (Err k)
@@ -69,7 +68,7 @@ kind_bounds Tilt = (omega arith, omega arith)
 within_note : (g : List ℕ) → SomeIs (IsPost note_format) g → Within note_ranges g
 within_note g s =
     let b = kind_bounds s.0.kind in
-    let a : All Byte (1 ∷ note_laid s.0) = subst (All Byte) s.1.0 s.1.1 in
+    let a : AllByRecursion Byte (1 ∷ note_laid s.0) = subst (AllByRecursion Byte) s.1.0 s.1.1 in
     let w : Within note_ranges (1 ∷ note_laid s.0) = search rules in subst (Within note_ranges) (sym s.1.0) w
 
 pub note_refused : (bytes : List ℕ) (k : ℕ) → Cut note_ranges bytes (Err k) → Reads (IsPost note_format) 10 bytes (Err k)

@@ -1,10 +1,9 @@
 -- What one more call of the reader means for the whole file.
-use Rattle.std.proofs.Common.{◌≡◌, ℕ, ◌+◌, ◌-◌, ◌*◌, ◌<◌, ◌≤◌, ◌⊎◌, List, [], ◌∷◌, ◌++◌, length, get_or, take, drop, Err, sym, refl, ap, ◌∙◌, subst, arith, length-drop, length-take, take-add}
+use Rattle.std.proofs.Common.{◌≡◌, ℕ, ◌+◌, ◌*◌, ◌<◌, ◌≤◌, ◌⊎◌, List, [], ◌∷◌, ◌++◌, length, get_or, take, drop, Err, sym, ap, ◌∙◌, subst, arith, length-drop, length-take, take-add}
 use Rattle.std.proofs.ByRecursion.{All-append}
 use Rattle.std.proofs.lemmas.List.{flat_map_more, take_all, take-append-drop, length-take-le}
-use Rattle.std.specs.List.{AllByRecursion as All}
+use Rattle.std.specs.List.{AllByRecursion}
 use Rattle.messages.specs.declared.refusal.Refusal.TheVariants.{BadRecord}
-use Rattle.steps.specs.declared.fault.Fault.{Fault}
 use Rattle.steps.specs.declared.records.Records.{Records}
 use Rattle.steps.specs.declared.step.Step.{Step}
 use Rattle.steps.specs.Lawful.{Faulty, Lawful, LawfulOf, Says, longest}
@@ -35,7 +34,7 @@ module _ {M : Type 0} (f : Format M) (r : Records M) (ss : List (Step M)) (read 
         typed = read.typed;
         trays = read.trays;
         few = omega (arith, read.placed, read.short);
-        bytes = subst (All Byte) (sym whole) read.bytes;
+        bytes = subst (AllByRecursion Byte) (sym whole) read.bytes;
       }
 
   pub one_more : (s : Step M) → IsStep f s (take 10 (drop r.position r.file.now)) → (after : Records M) → after.file ≡ r.file → after.header ≡ r.header → after.position ≡ r.position + 10 → HasRead f after (ss ++ s ∷ [])
@@ -48,9 +47,9 @@ module _ {M : Type 0} (f : Format M) (r : Records M) (ss : List (Step M)) (read 
       let w : take (p + 10) file ≡ file_bytes f r.header (ss ++ s ∷ []) =
       take-add p 10 file ∙ ap (λ x. x ++ take 10 (drop p file)) read.written
       ∙ ap (λ x. file_bytes f r.header ss ++ x) is.0 ∙ flat_map_more (step_bytes f) (header_bytes r.header) ss s in
-      let b : All Byte (file_bytes f r.header (ss ++ s ∷ [])) =
-      subst (All Byte) (flat_map_more (step_bytes f) (header_bytes r.header) ss s)
-      (All-append Byte (file_bytes f r.header ss) (step_bytes f s) read.bytes (subst (All Byte) is.0 is.1)) in
+      let b : AllByRecursion Byte (file_bytes f r.header (ss ++ s ∷ [])) =
+      subst (AllByRecursion Byte) (flat_map_more (step_bytes f) (header_bytes r.header) ss s)
+      (All-append Byte (file_bytes f r.header ss) (step_bytes f s) read.bytes (subst (AllByRecursion Byte) is.0 is.1)) in
       let moved : Records M = record { file = r.file; header = r.header; position = r.position + 10; message = after.message } in
       let goal : HasRead f moved (ss ++ s ∷ []) = record { short = read.short; placed = omega arith; written = w; typed = read.typed; trays = read.trays; bytes = b } in
       let same : moved ≡ after = (λ i. record { file = sym sf i; header = sym sh i; position = sym sp i; message = after.message }) in

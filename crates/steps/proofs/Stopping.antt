@@ -1,19 +1,19 @@
 -- Where a file stops being lawful: from where one header or record stops to where the whole file does.
-use Rattle.std.proofs.Common.{◌≡◌, ℕ, ◌+◌, ◌*◌, ◌<◌, ◌≤◌, ◌⊎◌, List, [], ◌∷◌, ◌++◌, length, get_or, Err, sym, refl, ap, ◌∙◌, subst, inl, inr, ⊎_elim, append_assoc, arith, length-append, rules}
+use Rattle.std.proofs.Common.{◌≡◌, ℕ, ◌+◌, ◌*◌, ◌<◌, ◌≤◌, ◌⊎◌, List, [], ◌∷◌, ◌++◌, length, get_or, Err, sym, refl, ap, ◌∙◌, subst, inl, inr, ⊎_elim, append_assoc, arith, length-append}
 use Rattle.std.proofs.ByRecursion.{All-append}
 use Rattle.std.proofs.lemmas.List.{flat_map_more, length_push}
 use Rattle.std.proofs.lemmas.Bool.{cases_lt}
-use Rattle.std.specs.List.{flat_map, AllByRecursion as All}
+use Rattle.std.specs.List.{flat_map, AllByRecursion}
 use Rattle.messages.specs.declared.refusal.Refusal.TheVariants.{BadHeader, BadRecord}
 use Rattle.steps.specs.declared.header.Header.{Header}
 use Rattle.steps.specs.declared.header.MessageType.{MessageType}
 use Rattle.steps.specs.declared.header.MessageType.TheVariants as type
 use Rattle.steps.specs.declared.step.Step.{Step}
-use Rattle.steps.specs.Beginnings.{Longest, common}
+use Rattle.steps.specs.Beginnings.{common}
 use Rattle.steps.specs.Formats.{note_format, pen_format}
-use Rattle.steps.specs.Lawful.{Faulty, Lawful, LawfulOf, Says, longest}
+use Rattle.steps.specs.Lawful.{Faulty, Lawful, LawfulOf, longest}
 use Rattle.steps.specs.Layout.{Byte, EnoughTrays, Format, file_bytes, header_bytes, step_bytes, type_number}
-use Rattle.steps.specs.Reading.{IsHeader, IsStep, Reads, SomeIs}
+use Rattle.steps.specs.Reading.{IsHeader, IsStep, Reads}
 use Rattle.steps.proofs.Alike.{common_after, common_blocks, common_fits, common_front, common_reads, common_whole}
 use Rattle.steps.proofs.Lengths.{all_back, all_front, file_length, header_all_bytes, lawful_length, step_length}
 
@@ -23,7 +23,7 @@ header_only : (g : List ℕ) (h : Header) → IsHeader h g → Lawful g
 header_only g h is = by_type h.message_type refl where
   alone : {M : Type 0} (f : Format M) → h.message_type ≡ f.message_type → LawfulOf f g
   alone f t =
-      (h, [], record { written = is.0; typed = t; trays = is.1; few = omega arith; bytes = subst (All Byte) (sym is.0) (header_all_bytes h is.1) })
+      (h, [], record { written = is.0; typed = t; trays = is.1; few = omega arith; bytes = subst (AllByRecursion Byte) (sym is.0) (header_all_bytes h is.1) })
 
   by_type : (t : MessageType) → h.message_type ≡ t → Lawful g
   by_type type.Pen e = inl (alone pen_format e)
@@ -66,7 +66,7 @@ too_long_faulty file h =
 -- ---- in a record
 
 module _ {M : Type 0} (f : Format M) (rest : List ℕ) (k : ℕ) (r : Reads (IsStep f) 10 rest (Err k)) where
-  blocks_most : (ss gs : List (Step M)) → All Byte (flat_map (step_bytes f) gs) → common (flat_map (step_bytes f) gs) (flat_map (step_bytes f) ss ++ rest) ≤ 10 * length ss + k
+  blocks_most : (ss gs : List (Step M)) → AllByRecursion Byte (flat_map (step_bytes f) gs) → common (flat_map (step_bytes f) gs) (flat_map (step_bytes f) ss ++ rest) ≤ 10 * length ss + k
   blocks_most ss [] a = omega arith
   blocks_most [] (x ∷ gs) a =
       let b = r.1.most (step_bytes f x) (x, (refl, all_front Byte (step_bytes f x) (flat_map (step_bytes f) gs) a)) in
@@ -82,7 +82,7 @@ module _ {M : Type 0} (f : Format M) (rest : List ℕ) (k : ℕ) (r : Reads (IsS
       let e = ap (common (step_bytes f x ++ flat_map (step_bytes f) gs)) (append_assoc (step_bytes f s) (flat_map (step_bytes f) ss) rest) in
       omega arith
 
-  module _ (lawful : (g : List ℕ) → LawfulOf f g → Lawful g) (only : (g : List ℕ) → Lawful g → LawfulOf f g ⊎ (get_or g 5 0 ≡ type_number f.message_type → ⊥)) (h : Header) (ss : List (Step M)) (typed : h.message_type ≡ f.message_type) (trays : EnoughTrays h) (bytes : All Byte (file_bytes f h ss)) (some : 0 < length rest) (short : length (file_bytes f h ss ++ rest) ≤ longest) where
+  module _ (lawful : (g : List ℕ) → LawfulOf f g → Lawful g) (only : (g : List ℕ) → Lawful g → LawfulOf f g ⊎ (get_or g 5 0 ≡ type_number f.message_type → ⊥)) (h : Header) (ss : List (Step M)) (typed : h.message_type ≡ f.message_type) (trays : EnoughTrays h) (bytes : AllByRecursion Byte (file_bytes f h ss)) (some : 0 < length rest) (short : length (file_bytes f h ss ++ rest) ≤ longest) where
     files_length : length (file_bytes f h ss ++ rest) ≡ 8 + 10 * length ss + length rest
     files_length =
         let a = length-append (file_bytes f h ss) rest in let b = file_length f h ss in omega arith
@@ -96,7 +96,7 @@ module _ {M : Type 0} (f : Format M) (rest : List ℕ) (k : ℕ) (r : Reads (IsS
         let same : g ≡ file_bytes f h (ss ++ s ∷ []) = flat_map_more (step_bytes f) (header_bytes h) ss s in
         let n = files_length in
         let room : length (ss ++ s ∷ []) ≤ 3000 = (let p = length_push ss s in omega arith) in
-        let all : All Byte g = All-append Byte (file_bytes f h ss) (step_bytes f s) bytes (subst (All Byte) is.0 is.1) in
+        let all : AllByRecursion Byte g = All-append Byte (file_bytes f h ss) (step_bytes f s) bytes (subst (AllByRecursion Byte) is.0 is.1) in
         let c : common (step_bytes f s) rest ≡ k = sym (ap (λ x. common x rest) is.0) ∙ r.1.shared.2 in
         let e = common_after (file_bytes f h ss) (step_bytes f s) rest in
         let m = file_length f h ss in
@@ -106,7 +106,7 @@ module _ {M : Type 0} (f : Format M) (rest : List ℕ) (k : ℕ) (r : Reads (IsS
     most g l = ⊎_elim same_type other_type (only g l) where
       same_type : LawfulOf f g → common g (file_bytes f h ss ++ rest) ≤ 8 + 10 * length ss + k
       same_type o =
-          let a = subst (All Byte) o.2.written o.2.bytes in
+          let a = subst (AllByRecursion Byte) o.2.written o.2.bytes in
           let b = blocks_most ss o.1 (all_back Byte (header_bytes o.0) (flat_map (step_bytes f) o.1) a) in
           let c = common_blocks (header_bytes o.0) (header_bytes h) (flat_map (step_bytes f) o.1) (flat_map (step_bytes f) ss ++ rest) refl in
           let e = ap (λ x. common x (file_bytes f h ss ++ rest)) o.2.written in omega arith

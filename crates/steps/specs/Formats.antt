@@ -1,5 +1,5 @@
 -- How the two message types are posted.
-use Rattle.std.specs.Prelude.{◌≡◌, ℕ, List, [], ◌∷◌, ◌++◌, length, refl}
+use Rattle.std.specs.Prelude.{ℕ, List, [], ◌∷◌, ◌++◌, refl}
 use Rattle.messages.specs.declared.pen.PenMessage.{PenMessage}
 use Rattle.messages.specs.declared.pen.Stage.{Stage}
 use Rattle.messages.specs.declared.pen.Stage.TheVariants.{Down, Sample, Up}

@@ -1,6 +1,6 @@
 -- Which files are lawful, and where any other stops being so.
 use Rattle.std.specs.Prelude.{◌≡◌, ℕ, ◌<◌, ◌≤◌, ◌⊎◌, List, length}
-use Rattle.std.specs.List.{AllByRecursion as All}
+use Rattle.std.specs.List.{AllByRecursion}
 use Rattle.messages.specs.declared.refusal.Refusal.TheVariants.{BadHeader, BadRecord}
 use Rattle.steps.specs.declared.fault.Fault.{Fault}
 use Rattle.steps.specs.declared.header.Header.{Header}
@@ -15,7 +15,7 @@ pub record Says {M : Type 0} (f : Format M) (file : List ℕ) (h : Header) (step
   pub typed : h.message_type ≡ f.message_type
   pub trays : EnoughTrays h
   pub few : length steps ≤ 3000
-  pub bytes : All Byte file
+  pub bytes : AllByRecursion Byte file
 
 abbrev pub LawfulOf : {M : Type 0} → Format M → List ℕ → Type 0
 LawfulOf {M} f bytes = (h : Header) × (steps : List (Step M)) × Says f bytes h steps

@@ -1,6 +1,6 @@
 -- How far a reader has come in its file, and what reading on answers and leaves.
-use Rattle.std.specs.Prelude.{◌≡◌, ℕ, ◌+◌, ◌<◌, ◌≤◌, List, [], ◌∷◌, ◌++◌, length, take, drop, Some, None, Ok, Err, Option, Result}
-use Rattle.std.specs.List.{AllByRecursion as All}
+use Rattle.std.specs.Prelude.{◌≡◌, ℕ, ◌+◌, ◌≤◌, List, [], ◌∷◌, ◌++◌, length, take, drop, Some, None, Ok, Err, Option, Result}
+use Rattle.std.specs.List.{AllByRecursion}
 use Rattle.messages.specs.declared.refusal.Refusal.TheVariants.{BadRecord}
 use Rattle.steps.specs.declared.fault.Fault.{Fault}
 use Rattle.steps.specs.declared.records.Record.{Record}
@@ -17,7 +17,7 @@ pub record HasRead {M : Type 0} (f : Format M) (r : Records M) (steps : List (St
   pub written : take r.position r.file.now ≡ file_bytes f r.header steps
   pub typed : r.header.message_type ≡ f.message_type
   pub trays : EnoughTrays r.header
-  pub bytes : All Byte (file_bytes f r.header steps)
+  pub bytes : AllByRecursion Byte (file_bytes f r.header steps)
 
 -- a record was read: its bytes are those of the file at the position, which moves past them
 pub record Gives {M : Type 0} (f : Format M) (before after : Records M) (x : Record M) : Type 0 where

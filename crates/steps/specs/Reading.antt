@@ -1,6 +1,6 @@
 -- What the reader's calls answer.
 use Rattle.std.specs.Prelude.{◌≡◌, ℕ, ◌<◌, List, ◌∷◌, take, Ok, Err, Result}
-use Rattle.std.specs.List.{AllByRecursion as All}
+use Rattle.std.specs.List.{AllByRecursion}
 use Rattle.steps.specs.declared.header.Header.{Header}
 use Rattle.steps.specs.declared.step.Step.{Step}
 use Rattle.steps.specs.Beginnings.{Longest}
@@ -11,16 +11,16 @@ abbrev pub IsHeader : Header → List ℕ → Type 0
 IsHeader h bytes = (bytes ≡ header_bytes h) × EnoughTrays h
 
 abbrev pub IsPost : {M : Type 0} → Format M → M → List ℕ → Type 0
-IsPost f m bytes = (bytes ≡ 1 ∷ f.laid m) × All Byte bytes
+IsPost f m bytes = (bytes ≡ 1 ∷ f.laid m) × AllByRecursion Byte bytes
 
 abbrev pub IsStep : {M : Type 0} → Format M → Step M → List ℕ → Type 0
-IsStep f s bytes = (bytes ≡ step_bytes f s) × All Byte bytes
+IsStep f s bytes = (bytes ≡ step_bytes f s) × AllByRecursion Byte bytes
 
 abbrev pub IsBare : ℕ → Unit {0} → List ℕ → Type 0
-IsBare step u bytes = (bytes ≡ bare_bytes step) × All Byte bytes
+IsBare step u bytes = (bytes ≡ bare_bytes step) × AllByRecursion Byte bytes
 
 abbrev pub IsNumbered : ℕ → ℕ → List ℕ → Type 0
-IsNumbered step n bytes = (bytes ≡ numbered_bytes step n) × All Byte bytes
+IsNumbered step n bytes = (bytes ≡ numbered_bytes step n) × AllByRecursion Byte bytes
 
 -- some value is said by these bytes
 abbrev pub SomeIs : {V : Type 0} → (V → List ℕ → Type 0) → List ℕ → Type 0

@@ -4,10 +4,10 @@ use Rattle.steps.specs.Ranges.{Cut}
 use Rattle.steps.proofs.Numbered.{bare_refused}
 use Rattle.steps.proofs.step.read_bare.Goals as goal
 
-pub returns-in-err-cut : goal.returns-in-err-cut
-returns-in-err-cut c =
-    let p = err_from_is_err_and c.from-residual.result c.from-residual.ensures.1 in
-    let k = c.in-err-cut.field-0.0 in
+pub returns-in_err-cut : goal.returns-in_err-cut
+returns-in_err-cut c =
+    let p = err_from_is_err_and c.from_residual.result c.from_residual.ensures.1 in
+    let k = c.in_err-cut.field-0.0 in
     let bytes = c.args.bytes.now in
-    let short = subst (λ rs. Cut rs bytes (Err k)) c.bare-ranges-ranges.ensures c.in-err-cut.ensures in
+    let short = subst (λ rs. Cut rs bytes (Err k)) c.bare_ranges-ranges.ensures c.in_err-cut.ensures in
     rw (p.1, p.2) (bare_refused c.args.step c.ranges.step.fits bytes k short)
