@@ -21,7 +21,7 @@ state_of v P W =
 -- each receipt is below those after it
 abbrev pub Rising : {M : Type 0} → List (Entry M) → Type 0
 Rising [] = Unit {0}
-Rising (e ∷ es) = All (λ f. e.receipt < f.receipt) es × Rising es
+Rising (e ∷ es) = AllByRecursion (λ f. e.receipt < f.receipt) es × Rising es
 
 -- once open, at cycle z and with N + 1 trays: the tray of z holds the waiting entries, the tray of z + f, for f from 1 to N, the pending ones that are due at z + f
 pub record Running {M : Type 0} (ts : List (List (Cell M))) (N z s : ℕ) (P W : List (Entry M)) : Type 0 where
