@@ -3,6 +3,9 @@ use Rattle.std.proofs.Common.{◌≡◌, ℕ, ◌+◌, Bool, true, false, not, e
 use Rattle.std.proofs.lemmas.Bool.{cond-false, cond-true, eq-eqb, eqb-true, ne_eqb, true≢false}
 use Rattle.messages.specs.declared.refusal.Refusal.{Refusal}
 use Rattle.messages.specs.declared.refusal.Refusal.TheVariants.{CyclesUsedUp, LateWaiting, NotNextCycle, OutOfPhase, Shut}
+use Rattle.banks.specs.declared.bank.Trays
+use Rattle.messages.specs.declared.message.Message
+use Rattle.messages.specs.declared.message.Timed
 use Rattle.banks.specs.declared.cell.Cell.{Cell}
 use Rattle.dispatcher.specs.declared.call.Call.{Call}
 use Rattle.dispatcher.specs.declared.call.Call.TheVariants.{Ask, Dispatch, Name, Post, Turn, Warn}
@@ -66,19 +69,19 @@ turn_accepted {M} b m t n q =
     go false false false true f q = absurd (refused_not_turned _ _ _ t n refl q)
     go false false false false f q = (eqb-true t (m.cycle + 1) (not_false _ f), refl)
 
-module _ {B M : Type 0} (trays : B → List (List (Cell M))) (each all : B → ℕ) (interval : M → ℕ) where
-  abbrev seen : Dispatcher B M → View M
+module _ {B M : Type 0} {bg : Trays.Ghosts B M} {mg : Message.Ghosts M} {ig : Timed.Ghosts M} (trays : B → List (List (Cell M))) (each all : B → ℕ) (interval : M → ℕ) where
+  abbrev seen : Dispatcher B M bg mg ig → View M
   seen d = view trays each all interval d
 
   -- asked how many wait, and named these
-  pub record NamedAll (p : Report) (start named : Dispatcher B M) : Type 0 where
+  pub record NamedAll (p : Report) (start named : Dispatcher B M bg mg ig) : Type 0 where
     pub figures : Figures
-    pub asked : Dispatcher B M
+    pub asked : Dispatcher B M bg mg ig
     pub ask : Steps trays each all interval start asked Ask (Asked figures)
     pub same : asked ≡ start
     pub names : CallsThrough trays each all interval p.cycle 0 asked named (replicate figures.waiting Name)
 
-  module _ (p : Report) (start named left : Dispatcher B M) (n : NamedAll p start named) where
+  module _ (p : Report) (start named left : Dispatcher B M bg mg ig) (n : NamedAll p start named) where
     after_naming : start.cycle ≡ p.cycle → (b : Terms M) (calls : List (Call M)) (h : History M) → Led b (seen start) calls h → Stays b (seen named) (after_names b calls) h p.cycle 0
     after_naming e b calls h l =
         let m = (run b calls).state in
@@ -111,7 +114,7 @@ module _ {B M : Type 0} (trays : B → List (List (Cell M))) (each all : B → �
         }
 
     -- it was left, and the work of the round is done
-    module _ (round : Round M) (detect : Detect) (k : LeavesReport trays each all interval p named left (Ok detect)) (posted worked after : Dispatcher B M) (output : Output)
+    module _ (round : Round M) (detect : Detect) (k : LeavesReport trays each all interval p named left (Ok detect)) (posted worked after : Dispatcher B M bg mg ig) (output : Output)
         (posts : CallsThrough trays each all interval detect.cycle 0 left posted (map Post round.messages.now))
         (work : CallsThrough trays each all interval detect.cycle output.dispatched posted worked (Warn round.services ∷ replicate round.dispatches Dispatch))
         (in_cycle : output.cycle ≡ detect.cycle) where

@@ -3,6 +3,9 @@ use Rattle.std.proofs.Common.{◌≡◌, ℕ, ◌+◌, ◌<◌, ◌≤◌, List,
 use Rattle.std.specs.List.{slice_get}
 use Rattle.std.proofs.lemmas.List.{length_push, length-take-le, take_all}
 use Rattle.std.proofs.lemmas.List.Sums.{fold_push}
+use Rattle.banks.specs.declared.bank.Trays
+use Rattle.messages.specs.declared.message.Message
+use Rattle.messages.specs.declared.message.Timed
 use Rattle.banks.specs.declared.cell.Cell.{Cell}
 use Rattle.dispatcher.specs.declared.call.Call.{Call}
 use Rattle.dispatcher.specs.declared.dispatcher.Dispatcher.{Dispatcher}
@@ -17,16 +20,20 @@ use Rattle.phases.specs.declared.stop.Held.{Held}
 use Rattle.phases.proofs.Driving.{ok_not_err, same_err}
 use Rattle.phases.proofs.Through.{led_on, same_cycle}
 
-module _ {B M : Type 0} (trays : B → List (List (Cell M))) (each all : B → ℕ) (interval : M → ℕ) where
-  abbrev seen : Dispatcher B M → View M
+none_to_make : {M : Type 0} (p q : Report) (rounds : List (Round M)) → length rounds ≤ 0 → q ≡ p → Ok q ≡ not_driven p rounds
+none_to_make p q [] l e = ap (λ x. Ok x) e
+none_to_make p q (r ∷ rs) l e = absurd (omega arith)
+
+module _ {B M : Type 0} {bg : Trays.Ghosts B M} {mg : Message.Ghosts M} {ig : Timed.Ghosts M} (trays : B → List (List (Cell M))) (each all : B → ℕ) (interval : M → ℕ) where
+  abbrev seen : Dispatcher B M bg mg ig → View M
   seen d = view trays each all interval d
 
   -- the first i rounds, which are `done`, were made from the report phase p, and left the report phase q
-  pub record SoFar (p : Report) (start now-is : Dispatcher B M) (q : Report) (done : List (Round M)) (i : ℕ) : Type 0 where
+  pub record SoFar (p : Report) (start now-is : Dispatcher B M bg mg ig) (q : Report) (done : List (Round M)) (i : ℕ) : Type 0 where
     pub another_cycle : (start.cycle ≡ p.cycle → ⊥) → (now-is ≡ start) × (q ≡ p) × (i ≡ 0)
     pub in_cycle : start.cycle ≡ p.cycle → (b : Terms M) (calls : List (Call M)) (h : History M) → Led b (seen start) calls h → MadeAll b (seen now-is) calls h p done q
 
-  pub none_made : (p : Report) (start : Dispatcher B M) → SoFar p start start p [] 0
+  pub none_made : (p : Report) (start : Dispatcher B M bg mg ig) → SoFar p start start p [] 0
   none_made p start =
       record {
         another_cycle = λ f. (refl, refl, refl);
@@ -34,7 +41,7 @@ module _ {B M : Type 0} (trays : B → List (List (Cell M))) (each all : B → �
             record { on = led_on b (seen start) calls h [] (subst (Led b (seen start) calls) (sym (append-nil h)) l); cycle = omega arith; phase = omega arith };
       }
 
-  module _ (p : Report) (start d after : Dispatcher B M) (q : Report) (done : List (Round M)) (i : ℕ) (s : SoFar p start d q done i) (round : Round M) where
+  module _ (p : Report) (start d after : Dispatcher B M bg mg ig) (q : Report) (done : List (Round M)) (i : ℕ) (s : SoFar p start d q done i) (round : Round M) where
     still_out : (start.cycle ≡ p.cycle → ⊥) → d.cycle ≡ q.cycle → ⊥
     still_out f e =
         let o = s.another_cycle f in f (same_cycle (sym o.0) ∙ e ∙ ap (λ (x : Report). x.cycle) o.1)
@@ -85,11 +92,7 @@ module _ {B M : Type 0} (trays : B → List (List (Cell M))) (each all : B → �
               };
         }
 
-  none_to_make : (p q : Report) (rounds : List (Round M)) → length rounds ≤ 0 → q ≡ p → Ok q ≡ not_driven p rounds
-  none_to_make p q [] l e = ap (λ x. Ok x) e
-  none_to_make p q (r ∷ rs) l e = absurd (omega arith)
-
-  pub all_made : (p : Report) (start after : Dispatcher B M) (q : Report) (rounds : List (Round M)) (i : ℕ) → length rounds ≤ i → SoFar p start after q (take i rounds) i → Drives trays each all interval p start after rounds (Ok q)
+  pub all_made : (p : Report) (start after : Dispatcher B M bg mg ig) (q : Report) (rounds : List (Round M)) (i : ℕ) → length rounds ≤ i → SoFar p start after q (take i rounds) i → Drives trays each all interval p start after rounds (Ok q)
   all_made p start after q rounds i l s =
       record {
         another_cycle = λ f.

@@ -2,6 +2,9 @@
 use Rattle.std.proofs.Common.{◌≡◌, ℕ, ◌+◌, min, Bool, true, false, cond, List, [], ◌∷◌, ◌++◌, Some, None, Ok, Err, count_by, Option, Result, sym, refl, ap, ◌∙◌, subst, append_assoc, append-nil, arith}
 use Rattle.std.proofs.lemmas.List.Sums.{sum_by-append, sum_by_push}
 use Rattle.messages.specs.declared.refusal.Refusal.{Refusal}
+use Rattle.banks.specs.declared.bank.Trays
+use Rattle.messages.specs.declared.message.Message
+use Rattle.messages.specs.declared.message.Timed
 use Rattle.banks.specs.declared.cell.Cell.{Cell}
 use Rattle.dispatcher.specs.declared.call.Call.{Call}
 use Rattle.dispatcher.specs.declared.call.Call.TheVariants.{Dispatch, Name, Post, Warn}
@@ -16,7 +19,7 @@ use Rattle.dispatcher.specs.Shown.{Shows}
 use Rattle.dispatcher.specs.Steps.{Fails, Simulates}
 use Rattle.dispatcher.specs.Views.{View, view}
 use Rattle.dispatcher.specs.WholeRuns.{Led}
-use Rattle.dispatcher.proofs.RealRuns.{follows_obeys}
+use Rattle.dispatcher.proofs.RealRuns.{follows_accounts, follows_obeys}
 use Rattle.phases.specs.Calls.{Called, counted, one_more}
 use Rattle.phases.specs.Rounds.{CallsThrough, LedOn, Stays, given_out}
 
@@ -69,10 +72,10 @@ module _ {M : Type 0} where
       sym (shown_cycle b w (step b m c).1 (g b m s).1) ∙ k b m ∙ shown_cycle b v m s
 
   abbrev pub led_on : (b : Terms M) (w : View M) (calls : List (Call M)) (h more : History M) → Led b w calls (h ++ more) → LedOn b w calls h
-  led_on b w calls h more l = record { more = more; led = l; law = follows_obeys b w calls (h ++ more) l }
+  led_on b w calls h more l = record { more = more; led = l; law = follows_obeys b w calls (h ++ more) l; account = follows_accounts b w calls (h ++ more) l }
 
-pub same_cycle : {B M : Type 0} {u v : Dispatcher B M} → u ≡ v → u.cycle ≡ v.cycle
-same_cycle {B} {M} e = ap (λ (d : Dispatcher B M). d.cycle) e
+pub same_cycle : {B M : Type 0} {bg : Trays.Ghosts B M} {mg : Message.Ghosts M} {ig : Timed.Ghosts M} {u v : Dispatcher B M bg mg ig} → u ≡ v → u.cycle ≡ v.cycle
+same_cycle {B} {M} {bg} {mg} {ig} e = ap (λ (d : Dispatcher B M bg mg ig). d.cycle) e
 
 -- a count after an event
 abbrev pub told_count : {M : Type 0} → ℕ → Event M → ℕ
@@ -107,11 +110,11 @@ count_join h k n z e =
     let none : count_by gives_out h ≡ 0 = omega arith in
     e ∙ ap (λ x. min x 4000000000) (omega arith)
 
-module _ {B M : Type 0} (trays : B → List (List (Cell M))) (each all : B → ℕ) (interval : M → ℕ) where
-  abbrev seen : Dispatcher B M → View M
+module _ {B M : Type 0} {bg : Trays.Ghosts B M} {mg : Message.Ghosts M} {ig : Timed.Ghosts M} (trays : B → List (List (Cell M))) (each all : B → ℕ) (interval : M → ℕ) where
+  abbrev seen : Dispatcher B M bg mg ig → View M
   seen d = view trays each all interval d
 
-  pub none_through : (z n : ℕ) (d : Dispatcher B M) → n ≡ 0 → CallsThrough trays each all interval z n d d []
+  pub none_through : (z n : ℕ) (d : Dispatcher B M bg mg ig) → n ≡ 0 → CallsThrough trays each all interval z n d d []
   none_through z n d zero-given =
       record {
         another_cycle = λ _. (refl, zero-given);
@@ -123,13 +126,13 @@ module _ {B M : Type 0} (trays : B → List (List (Cell M))) (each all : B → �
             };
       }
 
-  failed : {X : Type 0} (v w : Dispatcher B M) (z : ℕ) (c : Call M) (accepted : X → Event M) (r : Result X Refusal) (n : ℕ) → Called trays each all interval z v w c accepted r → (v.cycle ≡ z → ⊥) → (w ≡ v) × (told_count n (answered c accepted r) ≡ n)
+  failed : {X : Type 0} (v w : Dispatcher B M bg mg ig) (z : ℕ) (c : Call M) (accepted : X → Event M) (r : Result X Refusal) (n : ℕ) → Called trays each all interval z v w c accepted r → (v.cycle ≡ z → ⊥) → (w ≡ v) × (told_count n (answered c accepted r) ≡ n)
   failed v w z c accepted r n k f =
       let e = k.another_cycle f in
       (k.same (subst Fails (sym e) tt), ap (λ r. told_count n (answered c accepted r)) e)
 
   -- one call more
-  pub one_through : {X : Type 0} (z n n' : ℕ) (u v w : Dispatcher B M) (made : List (Call M)) (c : Call M) (accepted : X → Event M) (r : Result X Refusal) → KeepsCycle c → CallsThrough trays each all interval z n u v made → Called trays each all interval z v w c accepted r → n' ≡ told_count n (answered c accepted r) → CallsThrough trays each all interval z n' u w (made ++ c ∷ [])
+  pub one_through : {X : Type 0} (z n n' : ℕ) (u v w : Dispatcher B M bg mg ig) (made : List (Call M)) (c : Call M) (accepted : X → Event M) (r : Result X Refusal) → KeepsCycle c → CallsThrough trays each all interval z n u v made → Called trays each all interval z v w c accepted r → n' ≡ told_count n (answered c accepted r) → CallsThrough trays each all interval z n' u w (made ++ c ∷ [])
   one_through z n n' u v w made c accepted r keeps t k count =
       record {
         another_cycle = λ f.
@@ -149,7 +152,7 @@ module _ {B M : Type 0} (trays : B → List (List (Cell M))) (each all : B → �
       }
 
   -- after calls that gave nothing out
-  pub stays_on : (z n : ℕ) (v w : Dispatcher B M) (next : List (Call M)) (b : Terms M) (calls : List (Call M)) (h : History M) → Stays b (seen v) calls h z 0 → CallsThrough trays each all interval z n v w next → Stays b (seen w) (calls ++ next) h z n
+  pub stays_on : (z n : ℕ) (v w : Dispatcher B M bg mg ig) (next : List (Call M)) (b : Terms M) (calls : List (Call M)) (h : History M) → Stays b (seen v) calls h z 0 → CallsThrough trays each all interval z n v w next → Stays b (seen w) (calls ++ next) h z n
   stays_on z n v w next b calls h s k =
       let x = k.in_cycle s.cycle b calls (h ++ s.on.more) s.on.led in
       let more = s.on.more ++ x.on.more in
@@ -159,7 +162,7 @@ module _ {B M : Type 0} (trays : B → List (List (Cell M))) (each all : B → �
         count = count_join s.on.more x.on.more n s.count x.count;
       }
 
-  pub join_through : (z n : ℕ) (u v w : Dispatcher B M) (made next : List (Call M)) → CallsThrough trays each all interval z 0 u v made → CallsThrough trays each all interval z n v w next → CallsThrough trays each all interval z n u w (made ++ next)
+  pub join_through : (z n : ℕ) (u v w : Dispatcher B M bg mg ig) (made next : List (Call M)) → CallsThrough trays each all interval z 0 u v made → CallsThrough trays each all interval z n v w next → CallsThrough trays each all interval z n u w (made ++ next)
   join_through z n u v w made next t k =
       record {
         another_cycle = λ f.

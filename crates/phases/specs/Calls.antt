@@ -2,6 +2,9 @@
 use Rattle.std.specs.Prelude.{◌≡◌, ℕ, ◌+◌, min, Bool, cond, not, List, [], ◌∷◌, is_some, Some, None, Ok, Err, Option, Result, ◌==◌, ◌≢◌}
 use Rattle.messages.specs.declared.refusal.Refusal.{Refusal}
 use Rattle.messages.specs.declared.refusal.Refusal.TheVariants.{LateWaiting, OutOfPhase, Shut}
+use Rattle.banks.specs.declared.bank.Trays
+use Rattle.messages.specs.declared.message.Message
+use Rattle.messages.specs.declared.message.Timed
 use Rattle.banks.specs.declared.cell.Cell.{Cell}
 use Rattle.dispatcher.specs.declared.dispatcher.Dispatcher.{Dispatcher}
 use Rattle.dispatcher.specs.declared.call.Call.{Call}
@@ -44,21 +47,21 @@ abbrev pub ComesOfTurn : Output → ℕ → Result NextCycle (Refused Output) �
 ComesOfTurn p t (Ok n) = n.report.cycle ≡ t
 ComesOfTurn p t (Err x) = x.phase ≡ p
 
-module _ {B M : Type 0} (trays : B → List (List (Cell M))) (each all : B → ℕ) (interval : M → ℕ) where
+module _ {B M : Type 0} {bg : Trays.Ghosts B M} {mg : Message.Ghosts M} {ig : Timed.Ghosts M} (trays : B → List (List (Cell M))) (each all : B → ℕ) (interval : M → ℕ) where
   -- the call c through a phase of the cycle z: refused with a dispatcher in another cycle, and else the dispatcher's own call
-  pub record Called {X : Type 0} (z : ℕ) (before after : Dispatcher B M) (c : Call M) (accepted : X → Event M) (r : Result X Refusal) : Type 0 where
+  pub record Called {X : Type 0} (z : ℕ) (before after : Dispatcher B M bg mg ig) (c : Call M) (accepted : X → Event M) (r : Result X Refusal) : Type 0 where
     pub another_cycle : (before.cycle ≢ z) → r ≡ Err OutOfPhase
     pub own_call : before.cycle ≡ z → LawfulCall trays each all interval before after c (answered c accepted r)
     pub same : Fails r → after ≡ before
 
   -- leaving the report phase p: the dispatcher has to be in its cycle and open, and no late entry may wait
-  pub record LeavesReport (p : Report) (before after : Dispatcher B M) (r : Result Detect (Refused Report)) : Type 0 where
+  pub record LeavesReport (p : Report) (before after : Dispatcher B M bg mg ig) (r : Result Detect (Refused Report)) : Type 0 where
     pub late_waits : Bool
     pub is_so : (b : Terms M) (m : State M) → Shows b (view trays each all interval before) m → late_waits ≡ not (is_empty m.waiting)
     pub answer : r ≡ left_report p (first_of ((not (before.cycle == p.cycle), OutOfPhase) ∷ (not before.«open», Shut) ∷ (late_waits, LateWaiting) ∷ []))
     pub same : after ≡ before
 
   -- turning to the cycle t through the output phase p
-  pub record Turns (p : Output) (before after : Dispatcher B M) (t : ℕ) (r : Result NextCycle (Refused Output)) : Type 0 where
+  pub record Turns (p : Output) (before after : Dispatcher B M bg mg ig) (t : ℕ) (r : Result NextCycle (Refused Output)) : Type 0 where
     pub call : Called p.cycle before after (Turn t) (Turned t) (turn_answer r)
     pub phase : ComesOfTurn p t r

@@ -4,6 +4,9 @@ use Rattle.std.specs.Prelude.{◌≡◌, ℕ, ◌+◌, min, not, List, [], ◌�
 use Rattle.std.specs.List.{slice_get}
 use Rattle.messages.specs.declared.refusal.Refusal.{Refusal}
 use Rattle.messages.specs.declared.refusal.Refusal.TheVariants.{LateWaiting, OutOfPhase, Shut}
+use Rattle.banks.specs.declared.bank.Trays
+use Rattle.messages.specs.declared.message.Message
+use Rattle.messages.specs.declared.message.Timed
 use Rattle.banks.specs.declared.cell.Cell.{Cell}
 use Rattle.dispatcher.specs.declared.call.Call.{Call}
 use Rattle.dispatcher.specs.declared.call.Call.TheVariants.{Dispatch, Name, Post, Turn, Warn}
@@ -12,7 +15,7 @@ use Rattle.dispatcher.specs.declared.event.Event.TheVariants.{Refused as Refused
 use Rattle.dispatcher.specs.History.{History, gives_out}
 use Rattle.dispatcher.specs.Machine.{State, Terms, first_of, is_empty, run}
 use Rattle.dispatcher.specs.Views.{View, view}
-use Rattle.dispatcher.specs.WholeRuns.{Led, Obeys}
+use Rattle.dispatcher.specs.WholeRuns.{Accounts, Led, Obeys}
 use Rattle.phases.specs.declared.phase.Output.{Output}
 use Rattle.phases.specs.declared.phase.Report.{Report}
 use Rattle.phases.specs.declared.refused.Refused.{Refused}
@@ -39,7 +42,8 @@ after_rounds b calls rounds = fold (after_round b) calls rounds
 pub record LedOn {M : Type 0} (b : Terms M) (w : View M) (calls : List (Call M)) (h : History M) : Type 0 where
   pub more : History M
   pub led : Led b w calls (h ++ more)
-  pub law : Obeys (h ++ more) w
+  pub law : Obeys (h ++ more) w.late w.trays
+  pub account : Accounts (h ++ more) w
 
 -- how many entries the calls gave out, as a phase counts them
 abbrev pub given_out : {M : Type 0} → History M → ℕ
@@ -110,19 +114,19 @@ abbrev pub not_driven : {M : Type 0} → Report → List (Round M) → Result Re
 not_driven p [] = Ok p
 not_driven p (r ∷ rs) = Err (record { round = 0; held = out_of_phase p })
 
-module _ {B M : Type 0} (trays : B → List (List (Cell M))) (each all : B → ℕ) (interval : M → ℕ) where
+module _ {B M : Type 0} {bg : Trays.Ghosts B M} {mg : Message.Ghosts M} {ig : Timed.Ghosts M} (trays : B → List (List (Cell M))) (each all : B → ℕ) (interval : M → ℕ) where
   -- these calls, one after another through phases of the cycle z, of which n gave an entry out
-  pub record CallsThrough (z n : ℕ) (before after : Dispatcher B M) (made : List (Call M)) : Type 0 where
+  pub record CallsThrough (z n : ℕ) (before after : Dispatcher B M bg mg ig) (made : List (Call M)) : Type 0 where
     pub another_cycle : (before.cycle ≢ z) → (after ≡ before) × (n ≡ 0)
     pub in_cycle : before.cycle ≡ z → (b : Terms M) (calls : List (Call M)) (h : History M) → Led b (view trays each all interval before) calls h → Stays b (view trays each all interval after) (calls ++ made) h z n
 
   -- one round from the report phase p: nothing with a dispatcher in another cycle, and else, whatever calls led here, the
   -- calls of the round lead on
-  pub record DrivesRound (p : Report) (before after : Dispatcher B M) (round : Round M) (r : Result Report Held) : Type 0 where
+  pub record DrivesRound (p : Report) (before after : Dispatcher B M bg mg ig) (round : Round M) (r : Result Report Held) : Type 0 where
     pub another_cycle : (before.cycle ≢ p.cycle) → (after ≡ before) × (r ≡ Err (out_of_phase p))
     pub in_cycle : before.cycle ≡ p.cycle → (b : Terms M) (calls : List (Call M)) (h : History M) → Led b (view trays each all interval before) calls h → DrivenRound b (view trays each all interval after) calls h p round r
 
   -- the same of rounds one after another
-  pub record Drives (p : Report) (before after : Dispatcher B M) (rounds : List (Round M)) (r : Result Report Stop) : Type 0 where
+  pub record Drives (p : Report) (before after : Dispatcher B M bg mg ig) (rounds : List (Round M)) (r : Result Report Stop) : Type 0 where
     pub another_cycle : (before.cycle ≢ p.cycle) → (after ≡ before) × (r ≡ not_driven p rounds)
     pub in_cycle : before.cycle ≡ p.cycle → (b : Terms M) (calls : List (Call M)) (h : History M) → Led b (view trays each all interval before) calls h → DrivenRounds b (view trays each all interval after) calls h p rounds r

@@ -1,6 +1,6 @@
 // Phases with a dispatcher that they are not of.
 use crate::steps::{
-    BLANK, begin, count, detect, dispatch, keep_output, keep_reporting, name, note, post,
+    BLANK, begin, check_eq, count, detect, dispatch, keep_output, keep_reporting, name, note, post,
 };
 use banks::bank::Bank;
 use dispatcher::dispatcher::Dispatcher;

@@ -8,6 +8,7 @@ use messages::note::{Note, NoteKind};
 use messages::refusal::Refusal;
 use phases::phase::{Detect, NextCycle, Output, React, Report};
 use phases::refused::Refused;
+use std::fmt::Debug;
 use std::test::Fail;
 
 // What the tests' tables hold before the first put.
@@ -32,6 +33,15 @@ pub fn entry(receipt: u32, interval: u8, deadline: u32) -> Entry<Note> {
         receipt,
         message: note(interval),
         deadline,
+    }
+}
+
+// That a value is the one that is wanted, as a result: a phase at hand can be finished before the test ends.
+pub fn check_eq<T: PartialEq + Debug + Drop>(found: T, wanted: T) -> Result<(), Fail> {
+    if found == wanted {
+        Ok(())
+    } else {
+        Err(Fail::new(format_args!("{found:?} in place of {wanted:?}")))
     }
 }
 

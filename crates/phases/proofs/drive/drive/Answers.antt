@@ -9,7 +9,7 @@ loop-round-init g c = none_made g.B.Trays.trays g.B.Trays.tray_limit g.B.Trays.t
 
 pub returns-in-Err : goal.returns-in-Err
 returns-in-Err g c =
-    stopped g.B.Trays.trays g.B.Trays.tray_limit g.B.Trays.total_limit g.B.Item.Timed.interval c.args.report c.args.dispatcher.now c.loop-round.dispatcher c.drive-round.new.dispatcher c.loop-round.report (take c.loop-round.round c.args.rounds.now) c.loop-round.round c.loop-round.invariant c.index-rounds-round.result c.args.rounds.now c.in-Err.held refl c.loop-round-test.true (slice_get_read c.args.rounds.now _ c.loop-round.round c.index-rounds-round.result refl c.loop-round-test.true c.index-rounds-round.is) c.in-Err.ensures
+    stopped g.B.Trays.trays g.B.Trays.tray_limit g.B.Trays.total_limit g.B.Item.Timed.interval c.args.report c.args.dispatcher.now c.loop-round.dispatcher c.drive_round.new.dispatcher c.loop-round.report (take c.loop-round.round c.args.rounds.now) c.loop-round.round c.loop-round.invariant c.index-rounds-round.result c.args.rounds.now c.in-Err.held refl c.loop-round-test.true (slice_get_read c.args.rounds.now _ c.loop-round.round c.index-rounds-round.result refl c.loop-round-test.true c.index-rounds-round.is) c.in-Err.ensures
 
 pub loop-round-preserved : goal.loop-round-preserved
 loop-round-preserved g c =
@@ -18,7 +18,7 @@ loop-round-preserved g c =
     let round = c.index-rounds-round.result in
     let more : take (i + 1) rounds ≡ take i rounds ++ round ∷ [] =
     take_more rounds i round c.loop-round-test.true ∙ ap (λ x. take i rounds ++ x ∷ []) (sym c.index-rounds-round.is) in
-    subst (λ done. SoFar g.B.Trays.trays g.B.Trays.tray_limit g.B.Trays.total_limit g.B.Item.Timed.interval c.args.report c.args.dispatcher.now c.drive-round.new.dispatcher c.in-Ok.next done (i + 1)) (sym more) (one_more_made g.B.Trays.trays g.B.Trays.tray_limit g.B.Trays.total_limit g.B.Item.Timed.interval c.args.report c.args.dispatcher.now c.loop-round.dispatcher c.drive-round.new.dispatcher c.loop-round.report (take c.loop-round.round c.args.rounds.now) c.loop-round.round c.loop-round.invariant c.index-rounds-round.result c.in-Ok.next c.in-Ok.ensures)
+    subst (λ done. SoFar g.B.Trays.trays g.B.Trays.tray_limit g.B.Trays.total_limit g.B.Item.Timed.interval c.args.report c.args.dispatcher.now c.drive_round.new.dispatcher c.in-Ok.next done (i + 1)) (sym more) (one_more_made g.B.Trays.trays g.B.Trays.tray_limit g.B.Trays.total_limit g.B.Item.Timed.interval c.args.report c.args.dispatcher.now c.loop-round.dispatcher c.drive_round.new.dispatcher c.loop-round.report (take c.loop-round.round c.args.rounds.now) c.loop-round.round c.loop-round.invariant c.index-rounds-round.result c.in-Ok.next c.in-Ok.ensures)
 
 pub returns : goal.returns
 returns g c =
