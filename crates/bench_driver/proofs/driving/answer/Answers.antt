@@ -1,4 +1,4 @@
-use Rattle.std.proofs.Common.{◌≡◌, sym, ap, ◌∙◌, arith}
+use Rattle.std.proofs.Common.{sym, ap, ◌∙◌, arith}
 use Rattle.bench_driver.specs.Loads.{note_at}
 use Rattle.dispatcher.specs.declared.call.Call.TheVariants.{Post}
 use Rattle.bench_driver.proofs.Loading.{answers_byte, is_ask, is_post}
