@@ -58,7 +58,7 @@ def report(name: str, program: Path, data: bytes) -> None:
 
 
 def main() -> None:
-    program = Path(sys.argv[1] if len(sys.argv) > 1 else ROOT / "target/bin/lesson").resolve()
+    program = Path(sys.argv[1] if len(sys.argv) > 1 else ROOT / "crates/lesson/out/lesson").resolve()
     report("sample", program, (ROOT / "samples/three-thousand-records.steps").read_bytes())
     report("generated lesson", program, some_lesson(random.Random(4), MOST_RECORDS).file())
 

@@ -1,6 +1,6 @@
 """Compares what a program prints with listing.py, on the samples and on generated files.
 
-`python3 second/compare.py [--from SEED] [--count N] [PROGRAM]`, where PROGRAM is target/bin/lesson of this repository
+`python3 second/compare.py [--from SEED] [--count N] [PROGRAM]`, where PROGRAM is crates/lesson/out/lesson of this repository
 unless told otherwise. Each sample is compared with its stored listing as well. The program's status has to be 0.
 
 At the first difference the sample or the seed is printed with the line and what each has there, and the status is 1.
@@ -79,7 +79,7 @@ def main() -> None:
     parser = argparse.ArgumentParser(description="Compares a program with listing.py on samples and generated files.")
     parser.add_argument("--from", dest="first", type=int, default=0, metavar="SEED", help="the first seed")
     parser.add_argument("--count", type=int, default=1_500, metavar="N", help="how many generated files")
-    parser.add_argument("program", type=Path, nargs="?", default=ROOT / "target/bin/lesson", metavar="PROGRAM")
+    parser.add_argument("program", type=Path, nargs="?", default=ROOT / "crates/lesson/out/lesson", metavar="PROGRAM")
     told = parser.parse_args()
     program = told.program.resolve()
     if not program.is_file():

@@ -96,7 +96,7 @@ def reached(crate: str, deps: dict[str, set[str]]) -> set[str]:
 
 
 def run(copy: Path, *words: str) -> subprocess.CompletedProcess[str]:
-    return subprocess.run(words, cwd=copy, text=True, stdout=subprocess.PIPE, stderr=subprocess.STDOUT)
+    return subprocess.run(words, cwd=copy, text=True, stdin=subprocess.DEVNULL, stdout=subprocess.PIPE, stderr=subprocess.STDOUT)
 
 
 # What an error says that is about names and no fact.
@@ -120,18 +120,17 @@ def refused(text: str) -> tuple[str, str]:
 
 def judge(copy: Path, bug: Bug, above: set[str]) -> tuple[str, str]:
     """What catches the bug that stands in the copy, and the first words about it."""
-    checked = run(copy, "rt", "dev", bug.crate)
+    checked = run(copy, "rt", "check", bug.crate)
     if checked.returncode != 0:
         if "logic=not-proved" in checked.stdout:
             return refused(checked.stdout)
         return "bad", first_error(checked.stdout)
-    tests = sorted(name for name in above if name.endswith("_tests"))
-    if tests:
-        tested = run(copy, "rt", "test", *tests)
+    for name in sorted(name for name in above if name.endswith("_tests")):
+        tested = run(copy, "rt", "test", name)
         if tested.returncode != 0:
             return "tests", first_error(tested.stdout)
     if "lesson" in above:
-        built = run(copy, "rt", "check", "lesson")
+        built = run(copy, "rt", "run", "lesson")
         if built.returncode != 0:
             return "tests", first_error(built.stdout)
         compared = run(copy, "python3", "second/compare.py", "--count", "300")
@@ -161,13 +160,6 @@ def fresh_copy(number: int) -> Path:
     for name in ("crates", "second", "samples"):
         shutil.copytree(ROOT / name, copy / name)
     shutil.copy(ROOT / "crates.txt", copy)
-    (copy / "target").mkdir()
-    for part in (ROOT / "target").iterdir():
-        if part.name not in ("planted", "must-fail"):
-            if part.is_dir():
-                shutil.copytree(part, copy / "target" / part.name, symlinks=True)
-            else:
-                shutil.copy(part, copy / "target" / part.name)
     return copy
 
 

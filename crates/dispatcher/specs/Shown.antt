@@ -1,6 +1,6 @@
 -- When a dispatcher, seen as its numbers and its trays, shows a state of the machine.
 use Rattle.std.specs.Prelude.{◌≡◌, ℕ, ◌+◌, ◌-◌, ◌%◌, ◌<◌, ◌≤◌, true, false, List, [], ◌∷◌, map, length, filter, nat_lt}
-use Rattle.std.specs.List.{AllByRecursion as All}
+use Rattle.std.specs.List.{AllByRecursion}
 use Rattle.banks.specs.declared.cell.Cell.{Cell}
 use Rattle.banks.specs.Trays.{tray_at, held_in}
 use Rattle.dispatcher.specs.declared.entry.Entry.{Entry}
@@ -21,7 +21,7 @@ state_of v P W =
 -- each receipt is below those after it
 abbrev pub Rising : {M : Type 0} → List (Entry M) → Type 0
 Rising [] = Unit {0}
-Rising (e ∷ es) = All (λ f. e.receipt < f.receipt) es × Rising es
+Rising (e ∷ es) = AllByRecursion (λ f. e.receipt < f.receipt) es × Rising es
 
 -- once open, at cycle z and with N + 1 trays: the tray of z holds the waiting entries, the tray of z + f, for f from 1 to N, the pending ones that are due at z + f
 pub record Running {M : Type 0} (ts : List (List (Cell M))) (N z s : ℕ) (P W : List (Entry M)) : Type 0 where
@@ -30,10 +30,10 @@ pub record Running {M : Type 0} (ts : List (List (Cell M))) (N z s : ℕ) (P W :
   pub here : tray_at ts (z % (N + 1)) ≡ cells W
   pub ahead : (f : ℕ) → 0 < f → f ≤ N → tray_at ts ((z + f) % (N + 1)) ≡ cells (filter (due_at (z + f)) P)
   pub held : held_in ts ≡ length W + length P
-  pub pending_due : All (λ e. (z < e.deadline) × (e.deadline ≤ z + N)) P
-  pub waiting_due : All (λ e. e.deadline ≡ z) W
+  pub pending_due : AllByRecursion (λ e. (z < e.deadline) × (e.deadline ≤ z + N)) P
+  pub waiting_due : AllByRecursion (λ e. e.deadline ≡ z) W
   pub rising : Rising P
-  pub given : All (λ e. e.receipt < s) P
+  pub given : AllByRecursion (λ e. e.receipt < s) P
 
 -- before it is open
 pub record Idle {M : Type 0} (b : Terms M) (v : View M) (P W : List (Entry M)) : Type 0 where
