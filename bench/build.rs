@@ -1,4 +1,4 @@
-//! Links the static library that `rt staticlib bench_driver` writes.
+//! Links the static library that `bench/build` leaves in `target/staticlib`.
 fn main() {
     let root = std::env::var("CARGO_MANIFEST_DIR").expect("cargo names the folder of the package");
     let folder = format!("{root}/../target/staticlib");

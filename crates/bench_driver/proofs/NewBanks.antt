@@ -1,5 +1,5 @@
 -- What a dispatcher is made with over a bank that was just made.
-use Rattle.std.proofs.Common.{◌≡◌, ℕ, zero, suc, ◌+◌, ◌-◌, ◌*◌, ◌≤◌, Bool, false, ltb, List, [], ◌∷◌, length, take, replicate, sym, refl, ap, ◌∙◌, arith}
+use Rattle.std.proofs.Common.{◌≡◌, ℕ, zero, suc, ◌+◌, ◌-◌, ◌*◌, false, ltb, List, [], ◌∷◌, length, take, replicate, sym, refl, ap, ◌∙◌, arith}
 use Rattle.std.proofs.lemmas.List.{length-replicate, length-take-le}
 use Rattle.messages.specs.declared.note.Note.{Note}
 use Rattle.banks.specs.declared.cell.Cell.{Cell}
@@ -11,7 +11,6 @@ use Rattle.rows.specs.Rings.{rings, row_limit, row_number}
 use Rattle.chains.specs.declared.chain_bank.ChainBank.{ChainBank}
 use Rattle.chains.specs.ChainBanks as chains
 use Rattle.chains.specs.Chains.{chain_number, chain_size}
-use Rattle.dispatcher.specs.Machine.{Terms}
 use Rattle.dispatcher.specs.Steps.{terms}
 use Rattle.bench_driver.specs.Loads.{note_interval, terms_over_chains, terms_over_rows}
 

@@ -9,7 +9,7 @@ use Rattle.dispatcher.specs.declared.call.Call.{Call}
 use Rattle.dispatcher.specs.declared.entry.Entry.{Entry}
 use Rattle.dispatcher.specs.declared.event.Event.{Event}
 use Rattle.dispatcher.specs.declared.call.Call.TheVariants.{Dispatch, Name, Open, Post, Turn, Warn}
-use Rattle.dispatcher.specs.declared.event.Event.TheVariants.{Dispatched, Named, Opened, Posted, Refused, Turned, Warned}
+use Rattle.dispatcher.specs.declared.event.Event.TheVariants.{Dispatched, Opened, Posted, Refused, Turned, Warned}
 
 -- a note of the interval i, and its entry under a receipt
 abbrev pub note : ℕ → Note

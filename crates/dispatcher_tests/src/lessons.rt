@@ -8,10 +8,14 @@ use dispatcher::event::Event;
 use messages::note::Note;
 use messages::refusal::Refusal;
 use rows::row_bank::RowBank;
+use std::process::Abort;
 use std::test::Fail;
 
 // Three notes of intervals 2, 1 and 0, of which one is late in the end.
-fn a_late_note<B: Bank<Item = Note> + Drop>(rt: &HostRuntime, bank: B) -> Result<(), Fail> {
+fn a_late_note<B: Bank<Item = Note> + Drop>(
+    rt: &(impl Abort + AllocGlobal),
+    bank: B,
+) -> Result<(), Fail> {
     let calls = [
         Call::Open(0, 0),
         Call::Post(note(2)),
@@ -63,7 +67,7 @@ fn a_late_note_over_a_chain_bank(rt: HostRuntime) -> Result<(), Fail> {
 // A note of the longest interval, posted while a late one waits in the tray of the present cycle: it is no late entry,
 // and it is dispatched in its turn.
 fn the_longest_interval<B: Bank<Item = Note> + Drop>(
-    rt: &HostRuntime,
+    rt: &(impl Abort + AllocGlobal),
     bank: B,
 ) -> Result<(), Fail> {
     let calls = [
@@ -100,7 +104,10 @@ fn the_longest_interval_over_a_chain_bank(rt: HostRuntime) -> Result<(), Fail> {
 }
 
 // A full tray refuses, and a dispatch frees the place: a row tray of two cells, and a chain bank of two cells in all.
-fn room_again<B: Bank<Item = Note> + Drop>(rt: &HostRuntime, bank: B) -> Result<(), Fail> {
+fn room_again<B: Bank<Item = Note> + Drop>(
+    rt: &(impl Abort + AllocGlobal),
+    bank: B,
+) -> Result<(), Fail> {
     let calls = [
         Call::Open(0, 0),
         Call::Post(note(1)),

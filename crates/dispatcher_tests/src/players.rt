@@ -6,7 +6,8 @@ use dispatcher::dispatcher::running::run;
 use dispatcher::entry::Entry;
 use dispatcher::event::Event;
 use messages::note::{Note, NoteKind};
-use std::test::{Fail, assert_eq};
+use std::process::Abort;
+use std::test::Fail;
 
 // What the tests' tables hold before the first put.
 pub const BLANK: Cell<Note> = Cell {
@@ -35,15 +36,15 @@ pub fn entry(receipt: u32, interval: u8, deadline: u32) -> Entry<Note> {
 
 // Makes the calls, and checks that each is answered as expected.
 pub fn play<B: Bank<Item = Note> + Drop>(
-    rt: &HostRuntime,
+    rt: &(impl Abort + AllocGlobal),
     bank: B,
     calls: &[Call<Note>],
     expected: &[Event<Note>],
 ) -> Result<(), Fail> {
     let (_, events) = run(rt.alloc(), bank, calls)?;
-    assert_eq!(events.len(), expected.len());
+    assert_eq!(rt; events.len(), expected.len());
     for (event, wanted) in events.as_slice().iter().zip(expected.iter()) {
-        assert_eq!(*event, *wanted);
+        assert_eq!(rt; *event, *wanted);
     }
     Ok(())
 }

@@ -6,7 +6,8 @@ use dispatcher::event::Event;
 use messages::note::Note;
 use messages::refusal::Refusal;
 use rows::row_bank::RowBank;
-use std::test::{Fail, assert_eq};
+use std::process::Abort;
+use std::test::Fail;
 
 const LIMIT: u32 = 4_000_000_000;
 
@@ -78,10 +79,10 @@ fn a_bank_of_one_tray_is_unfit(rt: HostRuntime) -> Result<(), Fail> {
 
 // Puts a cell into the bank, and then makes a dispatcher over it.
 fn over_a_bank_in_use<B: Bank<Item = Note> + Drop>(
-    rt: &HostRuntime,
+    rt: &(impl Abort + AllocGlobal),
     mut bank: B,
 ) -> Result<(), Fail> {
-    assert_eq!(bank.put(0, 0, note(1)), Ok(()));
+    assert_eq!(rt; bank.put(0, 0, note(1)), Ok(()));
     let calls = [Call::Open(0, 0)];
     let expected = [refused(calls[0], Refusal::UnfitBank)];
     play(rt, bank, &calls, &expected)

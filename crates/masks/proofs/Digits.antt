@@ -1,6 +1,6 @@
 -- The binary digits of a number, and what setting, changing and counting them does.
-use Rattle.std.proofs.Common.{◌≡◌, ℕ, zero, suc, ◌+◌, ◌-◌, ◌*◌, ◌/◌, ◌%◌, ◌^◌, ◌<◌, ◌≤◌, Bool, true, false, cond, not, ◌&&◌, ◌||◌, eqb, ltb, ◌⊎◌, sym, refl, ap, ◌∙◌, subst, inl, inr, ⊎_elim, mod-lt, mul_comm, one-mul, pow-suc, mul-one, div-one, arith, pow_mono}
-use native.Mathlib.Nat.{pow-zero, div_self, mul-mod_right}
+use Rattle.std.proofs.Common.{◌≡◌, ℕ, zero, suc, ◌+◌, ◌-◌, ◌*◌, ◌/◌, ◌%◌, ◌^◌, ◌<◌, ◌≤◌, Bool, true, false, cond, not, ◌&&◌, ◌||◌, eqb, ltb, ◌⊎◌, sym, refl, ap, ◌∙◌, subst, inl, inr, ⊎_elim, mod-lt, mul_comm, one-mul, pow-suc, div-one, arith, pow_mono}
+use native.Mathlib.Nat.{mul-mod_right}
 use lib.Bits.{and_mask, bit_and, bit_or, bit_xor, or_shr, or_mod, xor_shr, xor_mod}
 use lib.Count.{count_trailing_zeros, under}
 use Rattle.std.proofs.lemmas.Nat.{div_below, one_shl, pow-add, pow_pos, shl-shr, shr-shr}

@@ -18,4 +18,4 @@ returns g c =
     let b = terms g.B.Trays.trays g.B.Trays.tray_limit g.B.Trays.total_limit note_interval c.args.bank in
     summed_all b _ c.args.load.now _ c.loop-byte.sum (take_all c.loop-byte.byte-index c.args.load.now c.loop-byte-test.false)
     (c.loop-byte.invariant b
-    (summed_start b _ _ (answered (Open 0 0) (λ _. Opened 0 0) c.open-opened.result) c.mix-sum.result c.after-open.result c.new-dispatcher.ensures c.open-opened.ensures.lawful.steps c.after-open.ensures c.mix-sum.ensures))
+    (summed_start b _ _ (answered (Open 0 0) (λ _. Opened 0 0) c.open-opened.result) c.mix-sum.result c.after_open.result c.new-dispatcher.ensures c.open-opened.ensures.steps c.after_open.ensures c.mix-sum.ensures))

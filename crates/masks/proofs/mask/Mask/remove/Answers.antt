@@ -1,6 +1,5 @@
-use Rattle.std.proofs.Common.{◌≡◌, ℕ, true, false, eqb, sym, refl, ap, ◌∙◌, ⊎_elim, arith}
+use Rattle.std.proofs.Common.{◌≡◌, eqb, sym, refl, ap, ◌∙◌, ⊎_elim, arith}
 use Rattle.std.proofs.lemmas.Bool.{ne_eqb}
-use Rattle.masks.specs.Members.{member}
 use Rattle.masks.proofs.Digits.{digit, digit_cases, lowest, member_remove, not_in}
 use Rattle.masks.proofs.mask.Mask.remove.Goals as goal
 
