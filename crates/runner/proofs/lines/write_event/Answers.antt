@@ -11,30 +11,30 @@ use Rattle.runner.proofs.lines.write_event.Goals as goal
 wide : {M : Type 0} (e f : Event M) → e ≡ f → room (call_of f) ≤ room (call_of e)
 wide e f is = subst (λ x. room (call_of x) ≤ room (call_of e)) is (omega arith)
 
-pub write-line-requires : goal.write-line-requires
-write-line-requires g c =
+pub write_line-requires : goal.write_line-requires
+write_line-requires g c =
     let k = c.in-Refused.refusal in
     let w = wide c.args.event _ c.in-Refused.is in
     let l = least_room c.in-Refused.field-0 in
     let r = subst (λ n. length (line (82 ∷ []) (n ∷ [])) ≤ 20) (sym c.number.ensures) (refused_room 82 k) in
     omega arith
 
-pub write-line-requires-in-Posted : goal.write-line-requires-in-Posted
-write-line-requires-in-Posted g c =
+pub write_line-requires-in-Posted : goal.write_line-requires-in-Posted
+write_line-requires-in-Posted g c =
     let w = wide c.args.event _ c.in-Posted.is in
     let b = subst BriefEvent c.in-Posted.is c.requires.1 in
     let l : c.args.at + 20 ≤ length c.args.out.now = omega arith in
     search (rules, two_fit)
 
-pub write-line-requires-in-Turned : goal.write-line-requires-in-Turned
-write-line-requires-in-Turned g c =
+pub write_line-requires-in-Turned : goal.write_line-requires-in-Turned
+write_line-requires-in-Turned g c =
     let w = wide c.args.event _ c.in-Turned.is in
     let b = subst BriefEvent c.in-Turned.is c.requires.1 in
     let l : c.args.at + 20 ≤ length c.args.out.now = omega arith in
     search (rules, two_fit)
 
-pub write-line-requires-in-Asked : goal.write-line-requires-in-Asked
-write-line-requires-in-Asked g c =
+pub write_line-requires-in-Asked : goal.write_line-requires-in-Asked
+write_line-requires-in-Asked g c =
     let f = c.in-Asked.end in
     let w = wide c.args.event _ c.in-Asked.is in
     let b = subst BriefEvent c.in-Asked.is c.requires.1 in
@@ -47,11 +47,11 @@ returns-in-Refused g c =
     let w = wide c.args.event _ c.in-Refused.is in
     let l = least_room c.in-Refused.field-0 in
     let r = subst (λ n. length (line (82 ∷ []) (n ∷ [])) ≤ 20) (sym c.number.ensures) (refused_room 82 k) in
-    let p = c.write-line.ensures.place in
+    let p = c.write_line.ensures.place in
     record {
       wrote = wrote_as _ _ _ _ _ _
           (ap (λ n. line (codes "R") (n ∷ [])) c.number.ensures ∙ ap (line_of g.M.Message.pad g.M.Message.kind) (sym c.in-Refused.is))
-          c.write-line.ensures;
+          c.write_line.ensures;
       short = omega arith;
     }
 
@@ -61,9 +61,9 @@ returns-in-Posted g c =
     let w = wide c.args.event _ c.in-Posted.is in
     let b = subst BriefEvent c.in-Posted.is c.requires.1 in
     let r = two_room 80 e.receipt e.deadline b.0 b.1 in
-    let p = c.write-line-in-Posted.ensures.place in
+    let p = c.write_line-in-Posted.ensures.place in
     record {
-      wrote = wrote_as _ _ _ _ _ _ (ap (line_of g.M.Message.pad g.M.Message.kind) (sym c.in-Posted.is)) c.write-line-in-Posted.ensures;
+      wrote = wrote_as _ _ _ _ _ _ (ap (line_of g.M.Message.pad g.M.Message.kind) (sym c.in-Posted.is)) c.write_line-in-Posted.ensures;
       short = omega arith;
     }
 
@@ -72,9 +72,9 @@ returns-in-Turned g c =
     let w = wide c.args.event _ c.in-Turned.is in
     let b = subst BriefEvent c.in-Turned.is c.requires.1 in
     let r = two_room 84 c.in-Turned.cycle c.in-Turned.late b.0 b.1 in
-    let p = c.write-line-in-Turned.ensures.place in
+    let p = c.write_line-in-Turned.ensures.place in
     record {
-      wrote = wrote_as _ _ _ _ _ _ (ap (line_of g.M.Message.pad g.M.Message.kind) (sym c.in-Turned.is)) c.write-line-in-Turned.ensures;
+      wrote = wrote_as _ _ _ _ _ _ (ap (line_of g.M.Message.pad g.M.Message.kind) (sym c.in-Turned.is)) c.write_line-in-Turned.ensures;
       short = omega arith;
     }
 
@@ -84,8 +84,8 @@ returns-in-Asked g c =
     let w = wide c.args.event _ c.in-Asked.is in
     let b = subst BriefEvent c.in-Asked.is c.requires.1 in
     let r = five_room 69 f.accepted f.dispatched f.late f.pending f.waiting b.0 b.1 b.2 b.3 b.4 in
-    let p = c.write-line-in-Asked.ensures.place in
+    let p = c.write_line-in-Asked.ensures.place in
     record {
-      wrote = wrote_as _ _ _ _ _ _ (ap (line_of g.M.Message.pad g.M.Message.kind) (sym c.in-Asked.is)) c.write-line-in-Asked.ensures;
+      wrote = wrote_as _ _ _ _ _ _ (ap (line_of g.M.Message.pad g.M.Message.kind) (sym c.in-Asked.is)) c.write_line-in-Asked.ensures;
       short = omega arith;
     }

@@ -13,8 +13,8 @@ use Rattle.runner.proofs.lines.write_events.Goals as goal
 pub loop-event-init : goal.loop-event-init
 loop-event-init g c = (record { content = refl; place = omega arith }, omega arith)
 
-pub write-event-end-requires : goal.write-event-end-requires
-write-event-end-requires g c =
+pub write_event-end-requires : goal.write_event-end-requires
+write_event-end-requires g c =
     let es = c.args.events.now in
     let i = c.loop-event.event-index in
     let e = c.event-item.result in
@@ -37,8 +37,8 @@ loop-event-preserved g c =
     let r = room_next es i e h in
     let same = ap (λ x. room (call_of x)) c.event-item.is in
     let k = c.loop-event.invariant.1 in
-    let s = c.write-event-end.ensures.short in
-    (wrote_as _ _ _ _ _ _ (sym text) (wrote_more _ _ _ _ _ _ _ _ c.loop-event.invariant.0 c.write-event-end.ensures.wrote), omega arith)
+    let s = c.write_event-end.ensures.short in
+    (wrote_as _ _ _ _ _ _ (sym text) (wrote_more _ _ _ _ _ _ _ _ c.loop-event.invariant.0 c.write_event-end.ensures.wrote), omega arith)
 
 pub returns : goal.returns
 returns g c =

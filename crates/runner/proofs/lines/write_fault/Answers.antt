@@ -3,8 +3,8 @@ use Rattle.runner.specs.Room.{BriefFault}
 use Rattle.runner.proofs.Widths.{fault_fits, small_refusal}
 use Rattle.runner.proofs.lines.write_fault.Goals as goal
 
-pub write-line-requires : goal.write-line-requires
-write-line-requires c =
+pub write_line-requires : goal.write_line-requires
+write_line-requires c =
     let b = subst BriefFault c.in-Some.is c.requires.1 in
     let s = small_refusal c.in-Some.fault.refusal in
     let e = c.number.ensures in
