@@ -7,7 +7,7 @@ use Rattle.runner.proofs.lines.write_entry.Goals as goal
 
 pub write_line-requires : goal.write_line-requires
 write_line-requires g c =
-    let b = subst BriefEntry c.in-Some.is c.requires.1 in search (rules, entry_fits)
+    let b = subst BriefEntry c.in-Some.is c.requires.brief in search (rules, entry_fits)
 
 pub returns : goal.returns
 returns g c =
@@ -15,7 +15,7 @@ returns g c =
     let letter = c.args.letter ∷ [] in
     let pad = g.M.Message.pad in
     let kind = g.M.Message.kind in
-    let b = subst BriefEntry c.in-Some.is c.requires.1 in
+    let b = subst BriefEntry c.in-Some.is c.requires.brief in
     let r = entry_room c.args.letter e.receipt e.deadline c.pad-pad.result c.kind-kind.result b.0 b.1 (omega arith) (omega arith) in
     let p = c.write_line.ensures.place in
     let same : line letter (e.receipt ∷ e.deadline ∷ c.pad-pad.result ∷ c.kind-kind.result ∷ []) ≡ entry_line pad kind letter c.args.entry =

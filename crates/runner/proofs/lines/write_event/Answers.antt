@@ -22,14 +22,14 @@ write_line-requires g c =
 pub write_line-requires-in-Posted : goal.write_line-requires-in-Posted
 write_line-requires-in-Posted g c =
     let w = wide c.args.event _ c.in-Posted.is in
-    let b = subst BriefEvent c.in-Posted.is c.requires.1 in
+    let b = subst BriefEvent c.in-Posted.is c.requires.brief in
     let l : c.args.at + 20 ≤ length c.args.out.now = omega arith in
     search (rules, two_fit)
 
 pub write_line-requires-in-Turned : goal.write_line-requires-in-Turned
 write_line-requires-in-Turned g c =
     let w = wide c.args.event _ c.in-Turned.is in
-    let b = subst BriefEvent c.in-Turned.is c.requires.1 in
+    let b = subst BriefEvent c.in-Turned.is c.requires.brief in
     let l : c.args.at + 20 ≤ length c.args.out.now = omega arith in
     search (rules, two_fit)
 
@@ -37,7 +37,7 @@ pub write_line-requires-in-Asked : goal.write_line-requires-in-Asked
 write_line-requires-in-Asked g c =
     let f = c.in-Asked.end in
     let w = wide c.args.event _ c.in-Asked.is in
-    let b = subst BriefEvent c.in-Asked.is c.requires.1 in
+    let b = subst BriefEvent c.in-Asked.is c.requires.brief in
     let r = five_room 69 f.accepted f.dispatched f.late f.pending f.waiting b.0 b.1 b.2 b.3 b.4 in
     omega arith
 
@@ -59,7 +59,7 @@ pub returns-in-Posted : goal.returns-in-Posted
 returns-in-Posted g c =
     let e = c.in-Posted.entry in
     let w = wide c.args.event _ c.in-Posted.is in
-    let b = subst BriefEvent c.in-Posted.is c.requires.1 in
+    let b = subst BriefEvent c.in-Posted.is c.requires.brief in
     let r = two_room 80 e.receipt e.deadline b.0 b.1 in
     let p = c.write_line-in-Posted.ensures.place in
     record {
@@ -70,7 +70,7 @@ returns-in-Posted g c =
 pub returns-in-Turned : goal.returns-in-Turned
 returns-in-Turned g c =
     let w = wide c.args.event _ c.in-Turned.is in
-    let b = subst BriefEvent c.in-Turned.is c.requires.1 in
+    let b = subst BriefEvent c.in-Turned.is c.requires.brief in
     let r = two_room 84 c.in-Turned.cycle c.in-Turned.late b.0 b.1 in
     let p = c.write_line-in-Turned.ensures.place in
     record {
@@ -82,7 +82,7 @@ pub returns-in-Asked : goal.returns-in-Asked
 returns-in-Asked g c =
     let f = c.in-Asked.end in
     let w = wide c.args.event _ c.in-Asked.is in
-    let b = subst BriefEvent c.in-Asked.is c.requires.1 in
+    let b = subst BriefEvent c.in-Asked.is c.requires.brief in
     let r = five_room 69 f.accepted f.dispatched f.late f.pending f.waiting b.0 b.1 b.2 b.3 b.4 in
     let p = c.write_line-in-Asked.ensures.place in
     record {

@@ -21,9 +21,9 @@ write_event-end-requires g c =
     let h = c.loop-event-test.true in
     let r = next_roomy es i e h in
     let same = ap (λ x. room (call_of x)) c.event-item.is in
-    let brief = subst BriefEvent (sym c.event-item.is) (All-get_or BriefEvent es i e h c.requires.1) in
+    let brief = subst BriefEvent (sym c.event-item.is) (All-get_or BriefEvent es i e h c.requires.brief) in
     let k = c.loop-event.invariant.1 in
-    (omega arith, brief)
+    record { room = omega arith; brief = brief }
 
 pub loop-event-preserved : goal.loop-event-preserved
 loop-event-preserved g c =

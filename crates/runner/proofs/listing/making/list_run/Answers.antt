@@ -1,5 +1,5 @@
 use Rattle.std.proofs.Common.{◌≡◌, ℕ, ◌+◌, ◌-◌, ◌≤◌, List, ◌++◌, map, length, vec_items, sym, ap, ◌∙◌, subst, arith}
-use Rattle.std.specs.List.{flat_map, AllByRecursion as All}
+use Rattle.std.specs.List.{flat_map, AllByRecursion}
 use Rattle.dispatcher.specs.Machine.{call_of}
 use Rattle.dispatcher.specs.Steps.{terms}
 use Rattle.runner.specs.Lines.{fault_line, line_of}
@@ -21,7 +21,10 @@ write_events-end-requires g c =
     let r = history_room b narrow calls few h w.law.of_calls in
     let n = ap (λ x. room_for (map call_of x)) c.as_slice.ensures.value in
     let out = c.requires.room in
-    (omega arith, subst (All BriefEvent) (sym c.as_slice.ensures.value) (history_brief b narrow calls few h w.account.led.answered))
+    record {
+      room = omega arith;
+      brief = subst (AllByRecursion BriefEvent) (sym c.as_slice.ensures.value) (history_brief b narrow calls few h w.account.led.answered);
+    }
 
 pub returns : goal.returns
 returns g c =
