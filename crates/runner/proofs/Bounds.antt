@@ -1,20 +1,19 @@
 -- How large the numbers of a run from cycle 0 and receipt 0 can grow: no larger than the number of its calls, but for the
 -- intervals that deadlines add.
-use Rattle.std.proofs.Common.{◌≡◌, ℕ, zero, suc, ◌+◌, ◌*◌, ◌<◌, ◌≤◌, Bool, true, false, cond, not, ◌||◌, eqb, ltb, leb, List, [], ◌∷◌, ◌++◌, length, Some, None, fold, count_by, filter, Option, sym, refl, ap, ◌∙◌, subst, arith, length-append}
+use Rattle.std.proofs.Common.{◌≡◌, ℕ, zero, suc, ◌+◌, ◌*◌, ◌<◌, ◌≤◌, Bool, true, false, cond, not, ◌||◌, eqb, ltb, leb, List, [], ◌∷◌, ◌++◌, length, Some, None, fold, filter, Option, refl, ap, subst, arith, length-append}
 use Rattle.std.specs.List.{AllByRecursion}
 use Rattle.std.proofs.ByRecursion.{All-append, all_kept_by, All-push, All-weaker}
 use Rattle.std.proofs.lemmas.List.Filters.{length-filter_both}
 use Rattle.std.proofs.lemmas.List.{length_push}
 use Rattle.std.proofs.lemmas.List.Sums.{count_by-le-length, length-filter}
-use Rattle.std.proofs.lemmas.Bool.{eqb-true, false≢true, ltb-false, not-false, or_parts}
+use Rattle.std.proofs.lemmas.Bool.{eqb-true, ltb-false, not-false, or_parts}
 use Rattle.messages.specs.declared.refusal.Refusal.{Refusal}
 use Rattle.messages.specs.declared.refusal.Refusal.TheVariants.{CyclesUsedUp, Full, IntervalOutOfRange, LateWaiting, NotNextCycle, ReceiptsUsedUp, Shut}
 use Rattle.dispatcher.specs.declared.call.Call.{Call}
 use Rattle.dispatcher.specs.declared.call.Call.TheVariants.{Ask, Begin, Dispatch, Name, Open, Post, Turn, Warn}
 use Rattle.dispatcher.specs.declared.entry.Entry.{Entry}
-use Rattle.dispatcher.specs.declared.entry.Warning.{Warning}
 use Rattle.dispatcher.specs.declared.event.Event.{Event}
-use Rattle.dispatcher.specs.Machine.{State, Terms, Told, act, due_at, due_by, first_of, first_over, in_tray, is_empty, limit, new_entry, refusal, run, serve, sooner, soonest, start, step, tell, told, unless, without}
+use Rattle.dispatcher.specs.Machine.{State, Terms, Told, act, due_at, due_by, first_of, first_over, in_tray, is_empty, limit, new_entry, refusal, run, serve, sooner, soonest, start, step, tell, told, unless}
 use Rattle.runner.specs.Room.{BriefEntry, BriefEvent, BriefWarning, FromZero}
 
 -- an entry of a run of at most n calls

@@ -1,5 +1,5 @@
 -- The calls of a file are few, and its fault has a short line.
-use Rattle.std.proofs.Common.{◌≡◌, ℕ, ◌+◌, ◌*◌, ◌<◌, ◌≤◌, List, [], ◌∷◌, ◌++◌, map, length, Some, None, codes, Option, sym, refl, ap, ◌∙◌, subst, ⊎_elim, arith, length-append}
+use Rattle.std.proofs.Common.{◌≡◌, ℕ, ◌+◌, ◌*◌, ◌<◌, ◌≤◌, List, [], ◌∷◌, map, length, Some, None, Option, sym, refl, ap, subst, ⊎_elim, arith, length-append}
 use Rattle.std.specs.List.{AllByRecursion}
 use Rattle.std.proofs.ByRecursion.{All-append}
 use Rattle.std.proofs.lemmas.List.{length-map}
@@ -7,7 +7,7 @@ use Rattle.std.proofs.lemmas.Bool.{cases_lt}
 use Rattle.dispatcher.specs.declared.call.Call.{Call}
 use Rattle.dispatcher.specs.declared.event.Event.{Event}
 use Rattle.dispatcher.specs.Machine.{Terms, call_of, run}
-use Rattle.messages.specs.declared.refusal.Refusal.TheVariants.{BadHeader, BadRecord}
+use Rattle.messages.specs.declared.refusal.Refusal.TheVariants.{BadHeader}
 use Rattle.steps.specs.Lawful.{Faulty, longest}
 use Rattle.steps.specs.Layout.{Format, file_bytes}
 use Rattle.steps.specs.declared.fault.Fault.{Fault}

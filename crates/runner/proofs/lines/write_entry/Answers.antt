@@ -1,4 +1,4 @@
-use Rattle.std.proofs.Common.{◌≡◌, ◌+◌, ◌<◌, ◌≤◌, [], ◌∷◌, sym, ap, ◌∙◌, subst, arith, rules}
+use Rattle.std.proofs.Common.{◌≡◌, [], ◌∷◌, sym, ap, ◌∙◌, subst, arith, rules}
 use Rattle.runner.specs.Lines.{entry_line, line}
 use Rattle.runner.specs.Room.{BriefEntry}
 use Rattle.runner.proofs.Widths.{entry_fits, entry_room}

@@ -1,4 +1,4 @@
-use Rattle.std.proofs.Common.{◌≡◌, ℕ, ◌+◌, ◌≤◌, [], ◌∷◌, length, codes, sym, ap, ◌∙◌, subst, arith, rules}
+use Rattle.std.proofs.Common.{◌≡◌, ◌+◌, ◌≤◌, [], ◌∷◌, length, codes, sym, ap, ◌∙◌, subst, arith, rules}
 use Rattle.dispatcher.specs.Machine.{call_of}
 use Rattle.dispatcher.specs.declared.event.Event.{Event}
 use Rattle.runner.specs.Lines.{line, line_of}

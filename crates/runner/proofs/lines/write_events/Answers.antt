@@ -1,4 +1,4 @@
-use Rattle.std.proofs.Common.{◌≡◌, ◌+◌, ◌<◌, ◌≤◌, ◌++◌, map, length, get_or, take, sym, refl, ap, ◌∙◌, subst, arith}
+use Rattle.std.proofs.Common.{◌≡◌, ◌+◌, ◌++◌, map, take, sym, refl, ap, ◌∙◌, subst, arith}
 use Rattle.std.specs.List.{flat_map}
 use Rattle.std.proofs.ByRecursion.{All-get_or}
 use Rattle.std.proofs.lemmas.List.{take_all}
@@ -7,7 +7,7 @@ use Rattle.runner.specs.Lines.{line_of}
 use Rattle.runner.specs.Room.{BriefEvent, room, room_for}
 use Rattle.runner.proofs.Joining.{joined_next}
 use Rattle.runner.proofs.Rooms.{next_roomy, room_next}
-use Rattle.runner.proofs.Writing.{wrote_as, wrote_length, wrote_more}
+use Rattle.runner.proofs.Writing.{wrote_as, wrote_more}
 use Rattle.runner.proofs.lines.write_events.Goals as goal
 
 pub loop-event-init : goal.loop-event-init

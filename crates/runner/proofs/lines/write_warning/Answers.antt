@@ -1,4 +1,4 @@
-use Rattle.std.proofs.Common.{◌≡◌, [], ◌∷◌, sym, ap, ◌∙◌, subst, arith, rules}
+use Rattle.std.proofs.Common.{sym, ap, subst, arith, rules}
 use Rattle.runner.specs.Lines.{warning_line}
 use Rattle.runner.specs.Room.{BriefWarning}
 use Rattle.runner.proofs.Widths.{two_fit, two_room}

@@ -1,4 +1,4 @@
-use Rattle.std.proofs.Common.{◌≤◌, Some, Ok, refl, subst, arith}
+use Rattle.std.proofs.Common.{Some, Ok, refl, subst, arith}
 use Rattle.steps.specs.Opening.{Opens}
 use Rattle.runner.specs.Lines.{fault_line}
 use Rattle.runner.specs.Listings.{notes, of_no_header, of_notes, of_pen_messages, pen_messages}

@@ -1,4 +1,4 @@
-use Rattle.std.proofs.Common.{◌≡◌, length, vec_items, sym, ap, ◌∙◌, subst}
+use Rattle.std.proofs.Common.{length, vec_items, sym, ap, ◌∙◌, subst}
 use Rattle.chains.specs.ChainBanks as chain
 use Rattle.rows.specs.RowBanks as row
 use Rattle.steps.specs.declared.header.Header.{Header}
