@@ -1,13 +1,10 @@
-use Rattle.std.proofs.Common.{[], ◌∷◌, length, sym, refl, ap, arith, length-append}
+use Rattle.std.proofs.Common.{[], ◌∷◌, sym, ap, arith, length-append}
 use Rattle.std.specs.List.{flat_map}
 use Rattle.std.proofs.lemmas.List.{take_all}
 use Rattle.runner.specs.Lines.{part}
 use Rattle.runner.proofs.Joining.{joined_next, next_fits}
 use Rattle.runner.proofs.Writing.{wrote_as, wrote_length, wrote_more}
 use Rattle.runner.proofs.text.write_line.Goals as goal
-
-pub loop-number-init : goal.loop-number-init
-loop-number-init c = record { content = refl; place = omega arith }
 
 pub write_byte-spaced-requires : goal.write_byte-spaced-requires
 write_byte-spaced-requires c =
@@ -37,16 +34,6 @@ loop-number-preserved c =
     wrote_as _ _ _ _ _ _ (sym (joined_next part numbers c.loop-number.number-index 0 c.loop-number-test.true))
     (wrote_more _ _ _ _ _ _ _ _ c.loop-number.invariant
     (wrote_more _ _ (32 ∷ []) _ _ _ _ _ c.write_byte-spaced.ensures c.write_number-end.ensures))
-
-pub write_byte-requires : goal.write_byte-requires
-write_byte-requires c =
-    let numbers = c.args.numbers.now in
-    let n = length-append (flat_map part numbers) (10 ∷ []) in
-    let t = ap (λ x. length (flat_map part x)) (take_all c.loop-number.number-index numbers c.loop-number-test.false) in
-    let l = wrote_length _ _ _ _ _ c.write_byte-end.ensures in
-    let p = c.write_byte-end.ensures.place in
-    let q = c.loop-number.invariant.place in
-    omega arith
 
 pub returns : goal.returns
 returns c =

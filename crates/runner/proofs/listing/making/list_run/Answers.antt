@@ -9,22 +9,15 @@ use Rattle.runner.proofs.Listed.{fault_short, history_brief, history_room}
 use Rattle.runner.proofs.Writing.{wrote_as, wrote_more}
 use Rattle.runner.proofs.listing.making.list_run.Goals as goal
 
-pub write_events-end-requires : goal.write_events-end-requires
-write_events-end-requires g c =
+pub write_events-end-requires-clause-brief : goal.write_events-end-requires-clause-brief
+write_events-end-requires-clause-brief g c =
     let b = terms g.B.Trays.trays g.B.Trays.tray_limit g.B.Trays.total_limit g.B.Item.Timed.interval c.args.bank in
-    let calls = c.args.calls.now in
     let h = vec_items c.in_ok-_dispatcher.events in
     let w = c.in_ok-_dispatcher.ensures in
-    let few = c.requires.few in
     let trays = g.B.Trays.few_trays c.args.bank in
     let narrow : length (g.B.Trays.trays c.args.bank) - 1 ≤ 127 = omega arith in
-    let r = history_room b narrow calls few h w.law.of_calls in
-    let n = ap (λ x. room_for (map call_of x)) c.as_slice.ensures.value in
-    let out = c.requires.room in
-    record {
-      room = omega arith;
-      brief = subst (AllByRecursion BriefEvent) (sym c.as_slice.ensures.value) (history_brief b narrow calls few h w.account.led.answered);
-    }
+    subst (AllByRecursion BriefEvent) (sym c.as_slice.ensures.value)
+    (history_brief b narrow c.args.calls.now c.requires.few h w.account.led.answered)
 
 pub returns : goal.returns
 returns g c =

@@ -9,25 +9,23 @@ use Rattle.runner.proofs.Listed.{brief_fault, few_calls}
 use Rattle.runner.proofs.Playing.{played}
 use Rattle.runner.proofs.listing.making.play.Goals as goal
 
-pub list_run-requires : goal.list_run-requires
-list_run-requires g c =
-    let f = g.M.Posted.format in
-    let file = c.args.records.file.now in
-    let h = c.args.records.header in
-    let calls = vec_items c.in_ok-calls.calls in
-    let of = c.in_ok-calls.ensures in
-    let short = c.requires.begun.short in
-    record { few = subst FewCalls (sym c.as_slice.ensures.value) (few_calls f file h short calls c.in_ok-calls.fault of); brief = brief_fault f file h short calls c.in_ok-calls.fault of; room = c.requires.room }
+pub list_run-requires-clause-few : goal.list_run-requires-clause-few
+list_run-requires-clause-few g c =
+    subst FewCalls (sym c.as_slice.ensures.value)
+    (few_calls g.M.Posted.format c.args.records.file.now c.args.records.header c.requires.begun.short (vec_items c.in_ok-calls.calls) c.in_ok-calls.fault c.in_ok-calls.ensures)
 
-pub list_run-requires-in-Chain : goal.list_run-requires-in-Chain
-list_run-requires-in-Chain g c =
-    let f = g.M.Posted.format in
-    let file = c.args.records.file.now in
-    let h = c.args.records.header in
-    let calls = vec_items c.in_ok-calls.calls in
-    let of = c.in_ok-calls.ensures in
-    let short = c.requires.begun.short in
-    record { few = subst FewCalls (sym c.as_slice-in-Chain.ensures.value) (few_calls f file h short calls c.in_ok-calls.fault of); brief = brief_fault f file h short calls c.in_ok-calls.fault of; room = c.requires.room }
+pub list_run-requires-clause-brief : goal.list_run-requires-clause-brief
+list_run-requires-clause-brief g c =
+    brief_fault g.M.Posted.format c.args.records.file.now c.args.records.header c.requires.begun.short (vec_items c.in_ok-calls.calls) c.in_ok-calls.fault c.in_ok-calls.ensures
+
+pub list_run-requires-in-Chain-clause-few : goal.list_run-requires-in-Chain-clause-few
+list_run-requires-in-Chain-clause-few g c =
+    subst FewCalls (sym c.as_slice-in-Chain.ensures.value)
+    (few_calls g.M.Posted.format c.args.records.file.now c.args.records.header c.requires.begun.short (vec_items c.in_ok-calls.calls) c.in_ok-calls.fault c.in_ok-calls.ensures)
+
+pub list_run-requires-in-Chain-clause-brief : goal.list_run-requires-in-Chain-clause-brief
+list_run-requires-in-Chain-clause-brief g c =
+    brief_fault g.M.Posted.format c.args.records.file.now c.args.records.header c.requires.begun.short (vec_items c.in_ok-calls.calls) c.in_ok-calls.fault c.in_ok-calls.ensures
 
 pub returns-in-Row : goal.returns-in-Row
 returns-in-Row g c =
