@@ -1,20 +1,19 @@
 -- How large the numbers of a run from cycle 0 and receipt 0 can grow: no larger than the number of its calls, but for the
 -- intervals that deadlines add.
-use Rattle.std.proofs.Common.{◌≡◌, ℕ, zero, suc, ◌+◌, ◌*◌, ◌<◌, ◌≤◌, Bool, true, false, cond, not, ◌||◌, eqb, ltb, leb, List, [], ◌∷◌, ◌++◌, length, Some, None, fold, count_by, filter, Option, sym, refl, ap, ◌∙◌, subst, arith, length-append}
-use Rattle.std.specs.List.{AllByRecursion as All}
+use Rattle.std.proofs.Common.{◌≡◌, ℕ, zero, suc, ◌+◌, ◌*◌, ◌<◌, ◌≤◌, Bool, true, false, cond, not, ◌||◌, eqb, ltb, leb, List, [], ◌∷◌, ◌++◌, length, Some, None, fold, filter, Option, refl, ap, subst, arith, length-append}
+use Rattle.std.specs.List.{AllByRecursion}
 use Rattle.std.proofs.ByRecursion.{All-append, all_kept_by, All-push, All-weaker}
 use Rattle.std.proofs.lemmas.List.Filters.{length-filter_both}
 use Rattle.std.proofs.lemmas.List.{length_push}
 use Rattle.std.proofs.lemmas.List.Sums.{count_by-le-length, length-filter}
-use Rattle.std.proofs.lemmas.Bool.{eqb-true, false≢true, ltb-false, not-false, or_parts}
+use Rattle.std.proofs.lemmas.Bool.{eqb-true, ltb-false, not-false, or_parts}
 use Rattle.messages.specs.declared.refusal.Refusal.{Refusal}
 use Rattle.messages.specs.declared.refusal.Refusal.TheVariants.{CyclesUsedUp, Full, IntervalOutOfRange, LateWaiting, NotNextCycle, ReceiptsUsedUp, Shut}
 use Rattle.dispatcher.specs.declared.call.Call.{Call}
 use Rattle.dispatcher.specs.declared.call.Call.TheVariants.{Ask, Begin, Dispatch, Name, Open, Post, Turn, Warn}
 use Rattle.dispatcher.specs.declared.entry.Entry.{Entry}
-use Rattle.dispatcher.specs.declared.entry.Warning.{Warning}
 use Rattle.dispatcher.specs.declared.event.Event.{Event}
-use Rattle.dispatcher.specs.Machine.{State, Terms, Told, act, due_at, due_by, first_of, first_over, in_tray, is_empty, limit, new_entry, refusal, run, serve, sooner, soonest, start, step, tell, told, unless, without}
+use Rattle.dispatcher.specs.Machine.{State, Terms, Told, act, due_at, due_by, first_of, first_over, in_tray, is_empty, limit, new_entry, refusal, run, serve, sooner, soonest, start, step, tell, told, unless}
 use Rattle.runner.specs.Room.{BriefEntry, BriefEvent, BriefWarning, FromZero}
 
 -- an entry of a run of at most n calls
@@ -29,8 +28,8 @@ record Within {M : Type 0} (n : ℕ) (s : State M) : Type 0 where
   dispatched : s.dispatched ≤ n
   booked : s.late + length s.pending ≤ s.accepted
   waited : length s.waiting ≤ s.late
-  pending : All (Near n) s.pending
-  waiting : All (Near n) s.waiting
+  pending : AllByRecursion (Near n) s.pending
+  waiting : AllByRecursion (Near n) s.waiting
 
 -- tests that all fail
 first_none : (t : Bool) (k : Refusal) (xs : List (Bool × Refusal)) → first_of ((t, k) ∷ xs) ≡ None → (t ≡ false) × (first_of xs ≡ None)
@@ -38,7 +37,7 @@ first_none true k xs e = absurd (let z : ◌≡◌ {A = ℕ} 0 1 = cc in omega a
 first_none false k xs e = (refl, e)
 
 module _ {M : Type 0} where
-  nearer : (n : ℕ) (es : List (Entry M)) → All (Near n) es → All (Near (n + 1)) es
+  nearer : (n : ℕ) (es : List (Entry M)) → AllByRecursion (Near n) es → AllByRecursion (Near (n + 1)) es
   nearer n es a = All-weaker (Near n) (Near (n + 1)) (λ e h. let p = h.0 in let q = h.1 in (omega arith, omega arith)) es a
 
   kept_le : (t : Entry M → Bool) (es : List (Entry M)) → length (filter t es) ≤ length es
@@ -52,7 +51,7 @@ module _ {M : Type 0} where
       pick true = h
       pick false = k f refl
 
-  near_soonest : (n : ℕ) (es : List (Entry M)) → All (Near n) es → (f : Entry M) → soonest es ≡ Some f → Near n f
+  near_soonest : (n : ℕ) (es : List (Entry M)) → AllByRecursion (Near n) es → (f : Entry M) → soonest es ≡ Some f → Near n f
   near_soonest n [] a f e = absurd (let z : ◌≡◌ {A = ℕ} 0 1 = cc in omega arith)
   near_soonest n (x ∷ es) a f e =
       let same : sooner x (soonest es) ≡ f = cc in
@@ -130,7 +129,7 @@ module _ {M : Type 0} (b : Terms M) (narrow : b.span ≤ 127) (n : ℕ) (few : n
   on_name : (es : List (Entry M)) → s.waiting ≡ es → Goes_on (tell s es)
   on_name [] e = (tt, stays)
   on_name (f ∷ es) e =
-      let a = subst (All (Near n)) e w.waiting in
+      let a = subst (AllByRecursion (Near n)) e w.waiting in
       let l = ap length e in
       let r = w.waited in
       (brief_near f a.0, record { cycle = stays.cycle; next = stays.next; accepted = stays.accepted; dispatched = stays.dispatched; booked = w.booked; waited = omega arith; pending = stays.pending; waiting = nearer n es a.1 })
@@ -174,7 +173,7 @@ module _ {M : Type 0} (b : Terms M) (narrow : b.span ≤ 127) where
   abbrev go : Told M → Call M → Told M
   go r c = told r (step b r.state c)
 
-  runs_brief : (calls : List (Call M)) (n : ℕ) (r : Told M) → n + length calls < 9000 → All FromZero calls → Within n r.state → All BriefEvent r.history → All BriefEvent (fold go r calls).history
+  runs_brief : (calls : List (Call M)) (n : ℕ) (r : Told M) → n + length calls < 9000 → AllByRecursion FromZero calls → Within n r.state → AllByRecursion BriefEvent r.history → AllByRecursion BriefEvent (fold go r calls).history
   runs_brief [] n r l z w h = h
   runs_brief (c ∷ calls) n r l z w h =
       let k = on_step b narrow n (omega arith) r.state w c z.0 in
@@ -184,5 +183,5 @@ module _ {M : Type 0} (b : Terms M) (narrow : b.span ≤ 127) where
   begins = record { cycle = omega arith; next = omega arith; accepted = omega arith; dispatched = omega arith; booked = omega arith; waited = omega arith; pending = tt; waiting = tt }
 
   -- the events of a run of few calls are brief
-  pub run_brief : (calls : List (Call M)) → length calls < 9000 → All FromZero calls → All BriefEvent (run b calls).history
+  pub run_brief : (calls : List (Call M)) → length calls < 9000 → AllByRecursion FromZero calls → AllByRecursion BriefEvent (run b calls).history
   run_brief calls l z = runs_brief calls 0 (record { state = start; history = [] }) (omega arith) z begins tt

@@ -1,5 +1,5 @@
 -- Reading on through a file, a call for each record.
-use Rattle.std.proofs.Common.{◌≡◌, ℕ, ◌+◌, ◌<◌, ◌≤◌, List, [], ◌∷◌, ◌++◌, map, length, take, drop, Some, None, Err, sym, refl, ap, ◌∙◌, subst, append-nil, arith, length-take}
+use Rattle.std.proofs.Common.{◌≡◌, List, [], ◌∷◌, ◌++◌, map, length, drop, Some, None, sym, refl, ap, ◌∙◌, subst, append-nil, arith}
 use Rattle.std.proofs.lemmas.List.{length-take-le, map_push, take-append-drop}
 use Rattle.dispatcher.specs.declared.call.Call.{Call}
 use Rattle.dispatcher.specs.declared.call.Call.TheVariants as call
@@ -10,7 +10,7 @@ use Rattle.steps.specs.declared.fault.Fault.{Fault}
 use Rattle.steps.specs.declared.records.Record.{Record}
 use Rattle.steps.specs.declared.records.Records.{Records}
 use Rattle.steps.specs.declared.step.Step.{Step}
-use Rattle.runner.specs.Calls.{call_for, calls_for}
+use Rattle.runner.specs.Calls.{call_for}
 use Rattle.runner.specs.Files.{BreaksOff, CallsOf}
 
 -- these are the opening and the calls of the steps that were read since the start

@@ -1,13 +1,13 @@
 -- The calls of a file are few, and its fault has a short line.
-use Rattle.std.proofs.Common.{◌≡◌, ℕ, ◌+◌, ◌*◌, ◌<◌, ◌≤◌, List, [], ◌∷◌, ◌++◌, map, length, Some, None, codes, Option, sym, refl, ap, ◌∙◌, subst, ⊎_elim, arith, length-append}
-use Rattle.std.specs.List.{AllByRecursion as All}
+use Rattle.std.proofs.Common.{◌≡◌, ℕ, ◌+◌, ◌*◌, ◌<◌, ◌≤◌, List, [], ◌∷◌, map, length, Some, None, Option, sym, refl, ap, subst, ⊎_elim, arith, length-append}
+use Rattle.std.specs.List.{AllByRecursion}
 use Rattle.std.proofs.ByRecursion.{All-append}
 use Rattle.std.proofs.lemmas.List.{length-map}
 use Rattle.std.proofs.lemmas.Bool.{cases_lt}
 use Rattle.dispatcher.specs.declared.call.Call.{Call}
 use Rattle.dispatcher.specs.declared.event.Event.{Event}
 use Rattle.dispatcher.specs.Machine.{Terms, call_of, run}
-use Rattle.messages.specs.declared.refusal.Refusal.TheVariants.{BadHeader, BadRecord}
+use Rattle.messages.specs.declared.refusal.Refusal.TheVariants.{BadHeader}
 use Rattle.steps.specs.Lawful.{Faulty, longest}
 use Rattle.steps.specs.Layout.{Format, file_bytes}
 use Rattle.steps.specs.declared.fault.Fault.{Fault}
@@ -36,7 +36,7 @@ module _ (M : Type 0) where
   last_length None = omega arith
   last_length (Some fault) = omega arith
 
-  last_zero : (fault : Option Fault) → All FromZero (last_calls {M = M} fault)
+  last_zero : (fault : Option Fault) → AllByRecursion FromZero (last_calls {M = M} fault)
   last_zero None = (tt, tt)
   last_zero (Some fault) = tt
 
@@ -59,7 +59,7 @@ module _ {M : Type 0} where
   steps_room [] = refl
   steps_room (s ∷ ss) = let a = step_room s in let ih = steps_room ss in omega arith
 
-  steps_zero : (ss : List (Step M)) → All FromZero (map call_for ss)
+  steps_zero : (ss : List (Step M)) → AllByRecursion FromZero (map call_for ss)
   steps_zero [] = tt
   steps_zero (s ∷ ss) = (step_zero s, steps_zero ss)
 
@@ -102,9 +102,9 @@ module _ {M : Type 0} where
 
   -- the history of few calls is brief, and has room
   module _ (b : Terms M) (narrow : b.span ≤ 127) (calls : List (Call M)) (few : FewCalls calls) (h : List (Event M)) where
-    pub history_brief : (run b calls).history ≡ h → All BriefEvent h
+    pub history_brief : (run b calls).history ≡ h → AllByRecursion BriefEvent h
     history_brief e =
-        let l = few.few in subst (All BriefEvent) e (run_brief b narrow calls (omega arith) few.from_zero)
+        let l = few.few in subst (AllByRecursion BriefEvent) e (run_brief b narrow calls (omega arith) few.from_zero)
 
     pub history_room : map call_of h ≡ calls → room_for (map call_of h) + 11 ≤ 65536
     history_room e = let r = ap room_for e in let l = few.fit in omega arith

@@ -8,9 +8,8 @@ use Rattle.steps.specs.declared.header.Header.{Header}
 use Rattle.steps.specs.declared.records.Records.{Records}
 use Rattle.steps.specs.Opening.{Starts}
 use Rattle.runner.specs.Banks.{bank_terms}
-use Rattle.runner.specs.Calls.{calls_for}
 use Rattle.runner.specs.Files.{CallsOf, HasHeader}
-use Rattle.runner.specs.Listings.{IsListing, ListsSteps, Messages, listing, listing_over}
+use Rattle.runner.specs.Listings.{IsListing, ListsSteps, Messages, listing_over}
 use Rattle.runner.specs.Output.{Holds}
 
 module _ {M : Type 0} (t : Messages M) (file : List ℕ) (h : Header) (b : Terms M) (terms : b ≡ bank_terms t.interval h) (calls made : List (Call M)) (fault : Option Fault) (same : made ≡ calls) (of : CallsOf t.format file h calls fault) (before after : List ℕ) where

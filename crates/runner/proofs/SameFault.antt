@@ -1,8 +1,7 @@
 -- A file has one fault.
-use Rattle.std.proofs.Common.{◌≡◌, ℕ, ◌<◌, ◌≤◌, List, length, sym, refl, ap, ◌∙◌, subst, ⊎_elim, arith}
+use Rattle.std.proofs.Common.{◌≡◌, ℕ, ◌<◌, ◌≤◌, List, length, sym, ap, ◌∙◌, ⊎_elim, arith}
 use Rattle.std.proofs.lemmas.Bool.{cases_lt}
 use Rattle.messages.specs.declared.refusal.Refusal.{Refusal}
-use Rattle.messages.specs.declared.refusal.Refusal.TheVariants.{BadHeader, BadRecord}
 use Rattle.steps.specs.Beginnings.{Longest}
 use Rattle.steps.specs.Lawful.{Faulty, Lawful, longest}
 use Rattle.steps.specs.declared.fault.Fault.{Fault}

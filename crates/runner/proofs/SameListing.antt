@@ -1,17 +1,16 @@
 -- A file has one listing.
-use Rattle.std.proofs.Common.{◌≡◌, ℕ, ◌+◌, ◌*◌, ◌<◌, ◌≤◌, List, [], ◌++◌, length, get_or, Some, None, Option, sym, refl, ap, ◌∙◌, subst, inl, inr, append-nil, arith}
+use Rattle.std.proofs.Common.{◌≡◌, ℕ, List, [], ◌++◌, length, get_or, Some, None, Option, sym, ap, ◌∙◌, subst, inl, inr, append-nil, arith}
 use Rattle.messages.specs.declared.refusal.Refusal.TheVariants.{BadHeader, BadRecord}
 use Rattle.steps.specs.Formats.{note_format, pen_format}
-use Rattle.steps.specs.Lawful.{Faulty, Lawful, LawfulOf, Says}
+use Rattle.steps.specs.Lawful.{Faulty, Lawful, LawfulOf}
 use Rattle.steps.specs.Layout.{Format, file_bytes, type_number}
 use Rattle.steps.specs.declared.fault.Fault.{Fault}
 use Rattle.steps.specs.declared.header.Header.{Header}
-use Rattle.steps.specs.declared.header.MessageType.TheVariants as type
 use Rattle.steps.specs.declared.step.Step.{Step}
 use Rattle.steps.proofs.Lengths.{file_length}
 use Rattle.runner.specs.Files.{Tells}
 use Rattle.runner.specs.Lines.{fault_line}
-use Rattle.runner.specs.Listings.{IsListing, ListsFault, ListsSteps, Messages, OneListing, listing, notes, of_no_header, of_notes, of_pen_messages, pen_messages}
+use Rattle.runner.specs.Listings.{ListsFault, ListsSteps, Messages, OneListing, listing, notes, of_no_header, of_notes, of_pen_messages, pen_messages}
 use Rattle.runner.proofs.Apart.{Apart, files_apart, notes_apart, pens_apart}
 use Rattle.runner.proofs.SameFault.{same_fault}
 

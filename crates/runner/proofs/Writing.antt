@@ -1,7 +1,7 @@
 -- One text written behind another.
-use Rattle.std.proofs.Common.{◌≡◌, ℕ, suc, ◌+◌, ◌*◌, ◌/◌, ◌%◌, ◌^◌, ◌<◌, ◌≤◌, List, [], ◌∷◌, ◌++◌, length, drop, set, decimal, sym, refl, ap, ◌∙◌, subst, add-zero, arith, length-append, length-set}
+use Rattle.std.proofs.Common.{◌≡◌, ℕ, ◌+◌, ◌/◌, ◌%◌, ◌^◌, ◌<◌, ◌≤◌, List, [], ◌∷◌, ◌++◌, length, set, decimal, refl, ap, ◌∙◌, subst, add-zero, arith, length-append, length-set}
 use Rattle.std.proofs.lemmas.Fmt.{decimal_digit, decimal_step}
-use Rattle.std.proofs.lemmas.List.{drop_more, length_push}
+use Rattle.std.proofs.lemmas.List.{length_push}
 use Rattle.runner.specs.Output.{Wrote, write_at}
 
 write_append : (o : List ℕ) (at : ℕ) (xs ys : List ℕ) → write_at (write_at o at xs) (at + length xs) ys ≡ write_at o at (xs ++ ys)

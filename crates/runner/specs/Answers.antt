@@ -1,5 +1,5 @@
 -- What listing a file answers, and what it leaves in the output.
-use Rattle.std.specs.Prelude.{◌≡◌, ℕ, ◌<◌, ◌≤◌, List, ◌++◌, length, drop, Ok, Err, Result}
+use Rattle.std.specs.Prelude.{◌≡◌, ℕ, ◌<◌, ◌≤◌, List, length, Ok, Err, Result}
 use Rattle.messages.specs.declared.refusal.Refusal.TheVariants.{OutputTooShort}
 use Rattle.runner.specs.declared.listing.Unlisted.{Unlisted}
 use Rattle.runner.specs.declared.listing.Unlisted.TheVariants.{NoMemory, Refused}

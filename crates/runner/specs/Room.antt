@@ -1,6 +1,6 @@
 -- How much room the lines of a listing take.
 use Rattle.std.specs.Prelude.{◌≡◌, ℕ, ◌+◌, ◌<◌, ◌≤◌, List, [], ◌∷◌, length, Some, None, Option}
-use Rattle.std.specs.List.{AllByRecursion as All}
+use Rattle.std.specs.List.{AllByRecursion}
 use Rattle.dispatcher.specs.declared.call.Call.{Call}
 use Rattle.dispatcher.specs.declared.entry.Entry.{Entry}
 use Rattle.dispatcher.specs.declared.event.Event.{Event}
@@ -66,5 +66,5 @@ FromZero Ask = Unit {0}
 -- calls so few that the lines of their events are brief and fit an output, with the longest line of a fault behind them
 pub record FewCalls {M : Type 0} (calls : List (Call M)) : Type 0 where
   pub few : length calls ≤ 3002
-  pub from_zero : All FromZero calls
+  pub from_zero : AllByRecursion FromZero calls
   pub fit : room_for calls + 11 ≤ 65536

@@ -4,7 +4,7 @@ ghost use Rattle.dispatcher.specs.Machine.{call_of};
 ghost use Rattle.runner.specs.Lines.{entry_line, fault_line, line_of, warning_line};
 ghost use Rattle.runner.specs.Output.{Wrote};
 ghost use Rattle.runner.specs.Room.{BriefEntry, BriefEvent, BriefFault, BriefWarning, room, room_for};
-ghost use Rattle.std.specs.List.{flat_map, AllByRecursion as All};
+ghost use Rattle.std.specs.List.{flat_map, AllByRecursion};
 
 use crate::text::{write_line, write_none};
 use dispatcher::entry::{Entry, Warning};
@@ -14,7 +14,8 @@ use steps::fault::Fault;
 
 // The line of an event whose numbers are brief.
 fn write_event<M: Message>(out: &mut [u8], at: usize, event: Event<M>) -> usize
-    requires { (at + room (call_of event) ≤ length out.old) × (BriefEvent event) }
+    requires room { at + room (call_of event) ≤ length out.old }
+    requires brief { BriefEvent event }
     ensures wrote { Wrote out.old at (line_of M.Message.pad M.Message.kind event) out.new result }
     ensures short { result ≤ at + room (call_of event) }
 {
@@ -45,7 +46,8 @@ fn write_event<M: Message>(out: &mut [u8], at: usize, event: Event<M>) -> usize
 
 // An entry that was given out, or none.
 fn write_entry<M: Message>(out: &mut [u8], at: usize, letter: u8, entry: Option<Entry<M>>) -> usize
-    requires { (at + 20 ≤ length out.old) × (BriefEntry entry) }
+    requires room { at + 20 ≤ length out.old }
+    requires brief { BriefEntry entry }
     ensures wrote { Wrote out.old at (entry_line M.Message.pad M.Message.kind (letter ∷ []) entry) out.new result }
     ensures short { result ≤ at + 20 }
 {
@@ -62,7 +64,8 @@ fn write_entry<M: Message>(out: &mut [u8], at: usize, letter: u8, entry: Option<
 
 // What a warning named, or none.
 fn write_warning(out: &mut [u8], at: usize, warning: Option<Warning>) -> usize
-    requires { (at + 20 ≤ length out.old) × (BriefWarning warning) }
+    requires room { at + 20 ≤ length out.old }
+    requires brief { BriefWarning warning }
     ensures wrote { Wrote out.old at (warning_line warning) out.new result }
     ensures short { result ≤ at + 20 }
 {
@@ -74,7 +77,8 @@ fn write_warning(out: &mut [u8], at: usize, warning: Option<Warning>) -> usize
 
 // Where the file stops being lawful, if it does.
 pub(crate) fn write_fault(out: &mut [u8], at: usize, fault: Option<Fault>) -> usize
-    requires { (at + 11 ≤ length out.old) × (BriefFault fault) }
+    requires room { at + 11 ≤ length out.old }
+    requires brief { BriefFault fault }
     ensures { Wrote out.old at (fault_line fault) out.new result }
 {
     let Some(fault) = fault else {
@@ -90,7 +94,8 @@ pub(crate) fn write_fault(out: &mut [u8], at: usize, fault: Option<Fault>) -> us
 
 // The lines of all events, from the start of the output on.
 pub(crate) fn write_events<M: Message>(out: &mut [u8], events: &[Event<M>]) -> usize
-    requires { (room_for (map call_of events.now) ≤ length out.old) × (All BriefEvent events.now) }
+    requires room { room_for (map call_of events.now) ≤ length out.old }
+    requires brief { AllByRecursion BriefEvent events.now }
     ensures wrote { Wrote out.old 0 (flat_map (line_of M.Message.pad M.Message.kind) events.now) out.new result }
     ensures short { result ≤ room_for (map call_of events.now) }
 {

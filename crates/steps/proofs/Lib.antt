@@ -3,7 +3,7 @@ mod Choosing
 pub mod Counting
 mod Headers
 mod Insides
-mod Lengths
+pub mod Lengths
 mod Numbered
 mod Posts
 mod Progressing

@@ -1,5 +1,6 @@
 // A whole steps file, from its first byte to its last.
-ghost use Rattle.std.specs.Prelude.{◌≡◌, []};
+ghost use Rattle.std.specs.Prelude.{◌≡◌, [], IfErr};
+ghost use Rattle.messages.specs.declared.refusal.Refusal.TheVariants.{BadHeader};
 ghost use Rattle.steps.specs.Opening.{Checks, Opens, SumsUp};
 ghost use Rattle.steps.specs.Progress.{HasRead};
 
@@ -31,7 +32,8 @@ pub struct Summary {
 impl<'a> StepsFile<'a> {
     // Reads the header. A file that is too long is refused before its bytes are looked at.
     pub fn open(file: &'a [u8]) -> Result<StepsFile<'a>, Fault>
-        ensures { Opens file.entry result }
+        ensures opened { Opens file.entry result }
+        ensures header { IfErr result (λ fault. fault.refusal ≡ BadHeader) }
     {
         if file.len() > LONGEST {
             return Err(Fault {

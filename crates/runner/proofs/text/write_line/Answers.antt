@@ -1,4 +1,4 @@
-use Rattle.std.proofs.Common.{◌≡◌, ◌+◌, ◌<◌, ◌≤◌, [], ◌∷◌, ◌++◌, length, take, sym, refl, ap, ◌∙◌, add-zero, arith, length-append}
+use Rattle.std.proofs.Common.{[], ◌∷◌, sym, ap, arith, length-append}
 use Rattle.std.specs.List.{flat_map}
 use Rattle.std.proofs.lemmas.List.{take_all}
 use Rattle.runner.specs.Lines.{part}
@@ -6,29 +6,26 @@ use Rattle.runner.proofs.Joining.{joined_next, next_fits}
 use Rattle.runner.proofs.Writing.{wrote_as, wrote_length, wrote_more}
 use Rattle.runner.proofs.text.write_line.Goals as goal
 
-pub loop-number-init : goal.loop-number-init
-loop-number-init c = record { content = refl; place = omega arith }
-
-pub write-byte-spaced-requires : goal.write-byte-spaced-requires
-write-byte-spaced-requires c =
+pub write_byte-spaced-requires : goal.write_byte-spaced-requires
+write_byte-spaced-requires c =
     let numbers = c.args.numbers.now in
     let r = next_fits part numbers c.loop-number.number-index 0 c.loop-number-test.true in
     let n = length-append (flat_map part numbers) (10 ∷ []) in
-    let l = wrote_length _ _ _ _ _ c.write-byte-end.ensures in
-    let p = c.write-byte-end.ensures.place in
+    let l = wrote_length _ _ _ _ _ c.write_byte-end.ensures in
+    let p = c.write_byte-end.ensures.place in
     let q = c.loop-number.invariant.place in
     omega arith
 
-pub write-number-end-requires : goal.write-number-end-requires
-write-number-end-requires c =
+pub write_number-end-requires : goal.write_number-end-requires
+write_number-end-requires c =
     let numbers = c.args.numbers.now in
     let r = next_fits part numbers c.loop-number.number-index 0 c.loop-number-test.true in
     let n = length-append (flat_map part numbers) (10 ∷ []) in
-    let l = wrote_length _ _ _ _ _ c.write-byte-end.ensures in
-    let k = wrote_length _ _ _ _ _ c.write-byte-spaced.ensures in
-    let p = c.write-byte-end.ensures.place in
+    let l = wrote_length _ _ _ _ _ c.write_byte-end.ensures in
+    let k = wrote_length _ _ _ _ _ c.write_byte-spaced.ensures in
+    let p = c.write_byte-end.ensures.place in
     let q = c.loop-number.invariant.place in
-    let s = c.write-byte-spaced.ensures.place in
+    let s = c.write_byte-spaced.ensures.place in
     omega arith
 
 pub loop-number-preserved : goal.loop-number-preserved
@@ -36,21 +33,11 @@ loop-number-preserved c =
     let numbers = c.args.numbers.now in
     wrote_as _ _ _ _ _ _ (sym (joined_next part numbers c.loop-number.number-index 0 c.loop-number-test.true))
     (wrote_more _ _ _ _ _ _ _ _ c.loop-number.invariant
-    (wrote_more _ _ (32 ∷ []) _ _ _ _ _ c.write-byte-spaced.ensures c.write-number-end.ensures))
-
-pub write-byte-requires : goal.write-byte-requires
-write-byte-requires c =
-    let numbers = c.args.numbers.now in
-    let n = length-append (flat_map part numbers) (10 ∷ []) in
-    let t = ap (λ x. length (flat_map part x)) (take_all c.loop-number.number-index numbers c.loop-number-test.false) in
-    let l = wrote_length _ _ _ _ _ c.write-byte-end.ensures in
-    let p = c.write-byte-end.ensures.place in
-    let q = c.loop-number.invariant.place in
-    omega arith
+    (wrote_more _ _ (32 ∷ []) _ _ _ _ _ c.write_byte-spaced.ensures c.write_number-end.ensures))
 
 pub returns : goal.returns
 returns c =
     let numbers = c.args.numbers.now in
     let t = ap (λ x. flat_map part x) (take_all c.loop-number.number-index numbers c.loop-number-test.false) in
-    wrote_more _ _ (c.args.letter ∷ []) _ _ _ _ _ c.write-byte-end.ensures
-    (wrote_more _ _ _ _ _ _ _ _ (wrote_as _ _ _ _ _ _ t c.loop-number.invariant) c.write-byte.ensures)
+    wrote_more _ _ (c.args.letter ∷ []) _ _ _ _ _ c.write_byte-end.ensures
+    (wrote_more _ _ _ _ _ _ _ _ (wrote_as _ _ _ _ _ _ t c.loop-number.invariant) c.write_byte.ensures)

@@ -1,4 +1,4 @@
-use Rattle.std.proofs.Common.{◌≤◌, Some, Ok, refl, subst, arith}
+use Rattle.std.proofs.Common.{Some, Ok, refl, subst, arith}
 use Rattle.steps.specs.Opening.{Opens}
 use Rattle.runner.specs.Lines.{fault_line}
 use Rattle.runner.specs.Listings.{notes, of_no_header, of_notes, of_pen_messages, pen_messages}
@@ -11,15 +11,15 @@ pub returns-in-Err : goal.returns-in-Err
 returns-in-Err c =
     let fault = c.in-Err.fault in
     let e = c.in-Err.ensures in
-    let l = fault_short (Some fault) (header_brief c.args.file.now fault e.0 e.1) in
-    let p = c.write-fault.ensures.place in
+    let l = fault_short (Some fault) (header_brief c.args.file.now fault e.opened e.header) in
+    let p = c.write_fault.ensures.place in
     let room = c.requires in
-    (fault_line (Some fault), of_no_header (record { fault = fault; faulty = e.0; early = e.1; lines = refl }), wrote_holds _ _ _ _ c.write-fault.ensures (omega arith))
+    (fault_line (Some fault), of_no_header (record { fault = fault; faulty = e.opened; early = e.header; lines = refl }), wrote_holds _ _ _ _ c.write_fault.ensures (omega arith))
 
 pub returns-in-Pen : goal.returns-in-Pen
 returns-in-Pen c =
-    opened pen_messages c.args.file c.in-Pen.records (subst (λ r. Opens c.args.file (Ok r)) c.in-Pen.is c.in-Ok.ensures) (λ text l. of_pen_messages l) c.args.out.now c.play.new.out c.play.result c.play.ensures
+    opened pen_messages c.args.file c.in-Pen.records (subst (λ r. Opens c.args.file (Ok r)) c.in-Pen.is c.in-Ok.ensures.opened) (λ text l. of_pen_messages l) c.args.out.now c.play.new.out c.play.result c.play.ensures
 
 pub returns-in-Note : goal.returns-in-Note
 returns-in-Note c =
-    opened notes c.args.file c.in-Note.records (subst (λ r. Opens c.args.file (Ok r)) c.in-Note.is c.in-Ok.ensures) (λ text l. of_notes l) c.args.out.now c.play-in-Note.new.out c.play-in-Note.result c.play-in-Note.ensures
+    opened notes c.args.file c.in-Note.records (subst (λ r. Opens c.args.file (Ok r)) c.in-Note.is c.in-Ok.ensures.opened) (λ text l. of_notes l) c.args.out.now c.play-in-Note.new.out c.play-in-Note.result c.play-in-Note.ensures

@@ -1,4 +1,4 @@
-use Rattle.std.proofs.Common.{◌≡◌, length, vec_items, sym, ap, ◌∙◌, subst}
+use Rattle.std.proofs.Common.{length, vec_items, sym, ap, ◌∙◌, subst}
 use Rattle.chains.specs.ChainBanks as chain
 use Rattle.rows.specs.RowBanks as row
 use Rattle.steps.specs.declared.header.Header.{Header}
@@ -9,25 +9,23 @@ use Rattle.runner.proofs.Listed.{brief_fault, few_calls}
 use Rattle.runner.proofs.Playing.{played}
 use Rattle.runner.proofs.listing.making.play.Goals as goal
 
-pub list-run-requires : goal.list-run-requires
-list-run-requires g c =
-    let f = g.M.Posted.format in
-    let file = c.args.records.file.now in
-    let h = c.args.records.header in
-    let calls = vec_items c.in-ok-calls.calls in
-    let of = c.in-ok-calls.ensures in
-    let short = c.requires.begun.short in
-    record { few = subst FewCalls (sym c.as-slice.ensures.value) (few_calls f file h short calls c.in-ok-calls.fault of); brief = brief_fault f file h short calls c.in-ok-calls.fault of; room = c.requires.room }
+pub list_run-requires-clause-few : goal.list_run-requires-clause-few
+list_run-requires-clause-few g c =
+    subst FewCalls (sym c.as_slice.ensures.value)
+    (few_calls g.M.Posted.format c.args.records.file.now c.args.records.header c.requires.begun.short (vec_items c.in_ok-calls.calls) c.in_ok-calls.fault c.in_ok-calls.ensures)
 
-pub list-run-requires-in-Chain : goal.list-run-requires-in-Chain
-list-run-requires-in-Chain g c =
-    let f = g.M.Posted.format in
-    let file = c.args.records.file.now in
-    let h = c.args.records.header in
-    let calls = vec_items c.in-ok-calls.calls in
-    let of = c.in-ok-calls.ensures in
-    let short = c.requires.begun.short in
-    record { few = subst FewCalls (sym c.as-slice-in-Chain.ensures.value) (few_calls f file h short calls c.in-ok-calls.fault of); brief = brief_fault f file h short calls c.in-ok-calls.fault of; room = c.requires.room }
+pub list_run-requires-clause-brief : goal.list_run-requires-clause-brief
+list_run-requires-clause-brief g c =
+    brief_fault g.M.Posted.format c.args.records.file.now c.args.records.header c.requires.begun.short (vec_items c.in_ok-calls.calls) c.in_ok-calls.fault c.in_ok-calls.ensures
+
+pub list_run-requires-in-Chain-clause-few : goal.list_run-requires-in-Chain-clause-few
+list_run-requires-in-Chain-clause-few g c =
+    subst FewCalls (sym c.as_slice-in-Chain.ensures.value)
+    (few_calls g.M.Posted.format c.args.records.file.now c.args.records.header c.requires.begun.short (vec_items c.in_ok-calls.calls) c.in_ok-calls.fault c.in_ok-calls.ensures)
+
+pub list_run-requires-in-Chain-clause-brief : goal.list_run-requires-in-Chain-clause-brief
+list_run-requires-in-Chain-clause-brief g c =
+    brief_fault g.M.Posted.format c.args.records.file.now c.args.records.header c.requires.begun.short (vec_items c.in_ok-calls.calls) c.in_ok-calls.fault c.in_ok-calls.ensures
 
 pub returns-in-Row : goal.returns-in-Row
 returns-in-Row g c =
@@ -37,7 +35,7 @@ returns-in-Row g c =
     let e = c.new.ensures in
     let b = row_terms row.bank_trays row.bank_limit row.bank_total t.interval c.new.result h (length c.args.cells.now) c.from-trays.result c.requires.cells (c.from-trays.ensures ∙ ap (λ (x : Header). x.trays) same) c.requires.begun.trays
     (ap (λ (x : Header). x.bank) (sym same) ∙ c.in-Row.is) e.empty e.limit e.total in
-    played t c.args.records.file.now h _ b (vec_items c.in-ok-calls.calls) c.as-slice.result.now c.in-ok-calls.fault c.as-slice.ensures.value c.in-ok-calls.ensures c.args.out.now c.list-run.new.out c.list-run.result c.list-run.ensures
+    played t c.args.records.file.now h _ b (vec_items c.in_ok-calls.calls) c.as_slice.result.now c.in_ok-calls.fault c.as_slice.ensures.value c.in_ok-calls.ensures c.args.out.now c.list_run.new.out c.list_run.result c.list_run.ensures
 
 pub returns : goal.returns
 returns g c =
@@ -47,4 +45,4 @@ returns g c =
     let e = c.new-in-Chain.ensures in
     let b = chain_terms chain.bank_trays chain.bank_limit chain.bank_limit t.interval c.new-in-Chain.result h (length c.args.cells.now) c.from-trays.result c.requires.cells (c.from-trays.ensures ∙ ap (λ (x : Header). x.trays) same) c.requires.begun.trays
     (ap (λ (x : Header). x.bank) (sym same) ∙ c.in-Chain.is) e.empty e.limit e.limit in
-    played t c.args.records.file.now h _ b (vec_items c.in-ok-calls.calls) c.as-slice-in-Chain.result.now c.in-ok-calls.fault c.as-slice-in-Chain.ensures.value c.in-ok-calls.ensures c.args.out.now c.list-run-in-Chain.new.out c.list-run-in-Chain.result c.list-run-in-Chain.ensures
+    played t c.args.records.file.now h _ b (vec_items c.in_ok-calls.calls) c.as_slice-in-Chain.result.now c.in_ok-calls.fault c.as_slice-in-Chain.ensures.value c.in_ok-calls.ensures c.args.out.now c.list_run-in-Chain.new.out c.list_run-in-Chain.result c.list_run-in-Chain.ensures
