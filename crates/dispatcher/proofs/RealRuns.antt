@@ -4,6 +4,10 @@ use Rattle.std.specs.List.{slice_get}
 use Rattle.std.proofs.lemmas.List.Sums.{fold_push}
 use Rattle.std.proofs.lemmas.List.{length-map, length_push, take_all, take-append-le}
 use Rattle.std.proofs.lemmas.Bool.{cases_Bool, cases_lt}
+use Rattle.banks.specs.declared.bank.Trays
+use Rattle.messages.specs.declared.message.Message
+use Rattle.messages.specs.declared.message.Timed
+use Rattle.dispatcher.specs.declared.dispatcher.Dispatcher.{Dispatcher}
 use Rattle.banks.specs.declared.cell.Cell.{Cell}
 use Rattle.dispatcher.specs.declared.event.Event.TheVariants.{Posted}
 use Rattle.dispatcher.specs.History.{History, dispatches, namings}
@@ -11,7 +15,7 @@ use Rattle.dispatcher.specs.Machine.{Call, Entry, Event, State, Terms, Told, cal
 use Rattle.dispatcher.specs.Shown.{Shows}
 use Rattle.dispatcher.specs.Steps.{Simulates}
 use Rattle.dispatcher.specs.Theorems.{WarningsLeast}
-use Rattle.dispatcher.specs.Views.{View}
+use Rattle.dispatcher.specs.Views.{View, view}
 use Rattle.dispatcher.specs.WholeRuns.{Accounted, Accounts, AccountsNext, CarriesOn, Led, Obeyed, Obeys, lying_in}
 use Rattle.dispatcher.proofs.Calls.{is_of_calls}
 use Rattle.dispatcher.proofs.Lying.{trays_lying}
@@ -102,70 +106,78 @@ module _ {M : Type 0} where
       (λ (more : length h < k). let n = length_push h a in now_obeyed (h ++ a ∷ []) late ts k (omega arith) o)
       (⊎_elim (λ (x : length h < k). inr x) (λ (x : k ≤ length h). inl x) (cases_lt (length h) k))
 
--- every call so far led to a dispatcher with which all was accounted for
-abbrev pub AccountedTo : {M : Type 0} → Terms M → List (Call M) → History M → Type 0
-AccountedTo b calls h = (k : ℕ) → k ≤ length calls → Accounted b calls h k
-
-module _ {M : Type 0} (b : Terms M) where
-  led_length : (v : View M) (cs : List (Call M)) (h : History M) → Led b v cs h → length h ≡ length cs
-  led_length v cs h f = sym (length-map h call_of) ∙ ap length (follows_calls b v cs h f)
-
-  -- where all calls are among the first k
-  accounted_now : (v : View M) (cs : List (Call M)) (h : History M) (k : ℕ) → length cs ≤ k → Led b v cs h → Accounted b cs h k
-  accounted_now v cs h k l f =
-      let n = led_length v cs h f in
-      let e = sym (take_all k cs l) in
-      let g = sym (take_all k h (omega arith)) in
-      record {
-        seen = v;
-        led = subst (λ x. Led b v x (take k h)) e (subst (Led b v cs) g f);
-        law = subst (λ x. Obeys x v.late v.trays) g (follows_obeys b v cs h f);
-        accounts = subst (λ x. Accounts x v) g (follows_accounts b v cs h f);
-      }
-
-  -- what the first k calls led to, where more have come since
-  accounted_still : (cs : List (Call M)) (h : History M) (c : Call M) (a : Event M) (k : ℕ) → k ≤ length cs → k ≤ length h → Accounted b cs h k → Accounted b (cs ++ c ∷ []) (h ++ a ∷ []) k
-  accounted_still cs h c a k l n x =
-      let e = sym (take-append-le k cs (c ∷ []) l) in
-      let g = sym (take-append-le k h (a ∷ []) n) in
-      record {
-        seen = x.seen;
-        led = subst (λ y. Led b x.seen y (take k (h ++ a ∷ []))) e (subst (Led b x.seen (take k cs)) g x.led);
-        law = subst (λ y. Obeys y x.seen.late x.seen.trays) g x.law;
-        accounts = subst (λ y. Accounts y x.seen) g x.accounts;
-      }
-
-  accounted_none : (v : View M) → Led b v [] [] → AccountedTo b [] []
-  accounted_none v f k l = accounted_now v [] [] k (omega arith) f
-
-  accounted_more : (v w : View M) (cs : List (Call M)) (h : History M) (c : Call M) (a : Event M) → Led b v cs h → Led b w (cs ++ c ∷ []) (h ++ a ∷ []) → AccountedTo b cs h → AccountedTo b (cs ++ c ∷ []) (h ++ a ∷ [])
-  accounted_more v w cs h c a f g old i l =
-      let n = led_length v cs h f in
-      let m = length_push cs c in
-      ⊎_elim
-      (λ (less : i < length cs + 1). accounted_still cs h c a i (omega arith) (omega arith) (old i (omega arith)))
-      (λ (more : length cs + 1 ≤ i). accounted_now w (cs ++ c ∷ []) (h ++ a ∷ []) i (omega arith) g)
-      (cases_lt i (length cs + 1))
-
--- all at once
+-- both at once
 pub record Both {M : Type 0} (b : Terms M) (v : View M) (calls : List (Call M)) (h : History M) : Type 0 where
   pub follows : Led b v calls h
   pub obeyed : ObeyedTo h
-  pub accounted : AccountedTo b calls h
 
 module _ {M : Type 0} (b : Terms M) where
   pub both_none : (v : View M) (h : History M) → Shows b v start → h ≡ [] → Both b v [] h
   both_none v h s e =
       let f : Led b v [] [] = record { answered = refl; shows = s } in
-      subst (Both b v []) (sym e) (record { follows = f; obeyed = obeyed_none v.late v.trays (follows_obeys b v [] [] f); accounted = accounted_none b v f })
+      subst (Both b v []) (sym e) (record { follows = f; obeyed = obeyed_none v.late v.trays (follows_obeys b v [] [] f) })
 
   pub both_more : (v w : View M) (cs : List (Call M)) (h : History M) (c : Call M) (a : Event M) → Both b v cs h → Simulates v w c a → Both b w (cs ++ c ∷ []) (h ++ a ∷ [])
   both_more v w cs h c a x k =
       let f = follows_more b v w cs h c a x.follows k in
-      record { follows = f; obeyed = obeyed_more h a w.late w.trays x.obeyed (follows_obeys b w (cs ++ c ∷ []) (h ++ a ∷ []) f); accounted = accounted_more b v w cs h c a x.follows f x.accounted }
+      record { follows = f; obeyed = obeyed_more h a w.late w.trays x.obeyed (follows_obeys b w (cs ++ c ∷ []) (h ++ a ∷ []) f) }
 
   pub both_length : (v : View M) (cs : List (Call M)) (h : History M) → Both b v cs h → length h ≡ length cs
   both_length v cs h x = sym (length-map h call_of) ∙ ap length (follows_calls b v cs h x.follows)
+
+module _ {B M : Type 0} (trays : B → List (List (Cell M))) (each all : B → ℕ) (interval : M → ℕ) (b : Terms M) where
+  -- the calls so far led to the dispatcher d, and every one of them to a dispatcher with which all was accounted for
+  pub record Ran {t : Trays.Ghosts B M} {m : Message.Ghosts M} {i : Timed.Ghosts M} (d : Dispatcher B M t m i) (calls : List (Call M)) (h : History M) : Type 0 where
+    pub both : Both b (view trays each all interval d) calls h
+    pub accounted : (k : ℕ) → k ≤ length calls → Accounted trays each all interval t m i b calls h k
+
+  -- where all calls are among the first k
+  accounted_now : {t : Trays.Ghosts B M} {m : Message.Ghosts M} {i : Timed.Ghosts M} (d : Dispatcher B M t m i) (cs : List (Call M)) (h : History M) (k : ℕ) → length cs ≤ k → Both b (view trays each all interval d) cs h → Accounted trays each all interval t m i b cs h k
+  accounted_now d cs h k l x =
+      let v = view trays each all interval d in
+      let f = x.follows in
+      let n = both_length b v cs h x in
+      let e = sym (take_all k cs l) in
+      let g = sym (take_all k h (omega arith)) in
+      record {
+        dispatcher = d;
+        led = subst (λ y. Led b v y (take k h)) e (subst (Led b v cs) g f);
+        law = subst (λ y. Obeys y d.late (trays d.bank)) g (follows_obeys b v cs h f);
+        accounts = subst (λ y. Accounts y v) g (follows_accounts b v cs h f);
+      }
+
+  -- what the first k calls led to, where more have come since
+  accounted_still : {t : Trays.Ghosts B M} {m : Message.Ghosts M} {i : Timed.Ghosts M} (cs : List (Call M)) (h : History M) (c : Call M) (a : Event M) (k : ℕ) → k ≤ length cs → k ≤ length h → Accounted trays each all interval t m i b cs h k → Accounted trays each all interval t m i b (cs ++ c ∷ []) (h ++ a ∷ []) k
+  accounted_still cs h c a k l n x =
+      let d = x.dispatcher in
+      let v = view trays each all interval d in
+      let e = sym (take-append-le k cs (c ∷ []) l) in
+      let g = sym (take-append-le k h (a ∷ []) n) in
+      record {
+        dispatcher = d;
+        led = subst (λ y. Led b v y (take k (h ++ a ∷ []))) e (subst (Led b v (take k cs)) g x.led);
+        law = subst (λ y. Obeys y d.late (trays d.bank)) g x.law;
+        accounts = subst (λ y. Accounts y v) g x.accounts;
+      }
+
+  pub ran_none : {t : Trays.Ghosts B M} {m : Message.Ghosts M} {i : Timed.Ghosts M} (d : Dispatcher B M t m i) (h : History M) → Shows b (view trays each all interval d) start → h ≡ [] → Ran d [] h
+  ran_none d h s e =
+      let x = both_none b (view trays each all interval d) h s e in
+      record { both = x; accounted = λ k l. accounted_now d [] h k (omega arith) x }
+
+  pub ran_more : {t : Trays.Ghosts B M} {m : Message.Ghosts M} {i : Timed.Ghosts M} (d d' : Dispatcher B M t m i) (cs : List (Call M)) (h : History M) (c : Call M) (a : Event M) → Ran d cs h → Simulates (view trays each all interval d) (view trays each all interval d') c a → Ran d' (cs ++ c ∷ []) (h ++ a ∷ [])
+  ran_more d d' cs h c a x k =
+      let y = both_more b (view trays each all interval d) (view trays each all interval d') cs h c a x.both k in
+      let n = both_length b (view trays each all interval d) cs h x.both in
+      let p = length_push cs c in
+      record {
+        both = y;
+        accounted = λ j l.
+            ⊎_elim
+            (λ (less : j < length cs + 1). accounted_still cs h c a j (omega arith) (omega arith) (x.accounted j (omega arith)))
+            (λ (more : length cs + 1 ≤ j). accounted_now d' (cs ++ c ∷ []) (h ++ a ∷ []) j (omega arith) y)
+            (cases_lt j (length cs + 1));
+      }
 
 -- what goes as the machine goes carries the law on
 pub carries_on : {M : Type 0} (v w : View M) (c : Call M) (a : Event M) → Simulates v w c a → CarriesOn v w c a

@@ -86,20 +86,19 @@ module _ {B M : Type 0} (trays : B → List (List (Cell M))) where
 abbrev pub AccountsNext : {M : Type 0} → View M → View M → Call M → Event M → Type 0
 AccountsNext {M} v w c a = (b : Terms M) (calls : List (Call M)) (h : History M) → Led b v calls h → Accounts (h ++ a ∷ []) w
 
--- what a dispatcher, made with the terms b, looked like after the first k calls, which led to it: all that had happened
--- obeyed, and was accounted for
-pub record Accounted {M : Type 0} (b : Terms M) (calls : List (Call M)) (h : History M) (k : ℕ) : Type 0 where
-  pub seen : View M
-  pub led : Led b seen (take k calls) (take k h)
-  pub law : Obeys (take k h) seen.late seen.trays
-  pub accounts : Accounts (take k h) seen
-
 module _ {B M : Type 0} (trays : B → List (List (Cell M))) (each all : B → ℕ) (interval : M → ℕ) where
+  -- a dispatcher, made with the terms b, to which the first k calls led: all that had happened obeyed, and was accounted for
+  pub record Accounted (t : Trays.Ghosts B M) (m : Message.Ghosts M) (i : Timed.Ghosts M) (b : Terms M) (calls : List (Call M)) (h : History M) (k : ℕ) : Type 0 where
+    pub dispatcher : Dispatcher B M t m i
+    pub led : Led b (view trays each all interval dispatcher) (take k calls) (take k h)
+    pub law : Obeys (take k h) dispatcher.late (trays dispatcher.bank)
+    pub accounts : Accounts (take k h) (view trays each all interval dispatcher)
+
   -- these calls, made on a new dispatcher over the bank, led to the dispatcher d: of each call the answer that the machine
   -- gives, and all of it accounted for at the start, after each call, and at the end
   pub record AccountedRun {t : Trays.Ghosts B M} {m : Message.Ghosts M} {i : Timed.Ghosts M} (bank : B) (d : Dispatcher B M t m i) (calls : List (Call M)) (h : History M) : Type 0 where
     pub led : Led (terms trays each all interval bank) (view trays each all interval d) calls h
-    pub after_each : (k : ℕ) → k ≤ length calls → Accounted (terms trays each all interval bank) calls h k
+    pub after_each : (k : ℕ) → k ≤ length calls → Accounted t m i (terms trays each all interval bank) calls h k
     pub accounts : Accounts h (view trays each all interval d)
 
   -- a call of a dispatcher carries the account on

@@ -3,7 +3,7 @@ use Rattle.std.proofs.lemmas.List.{take_all, take_more}
 use Rattle.std.proofs.lemmas.Result.{IfOk-from_err}
 use Rattle.dispatcher.specs.Steps.{terms}
 use Rattle.dispatcher.specs.Views.{View, view}
-use Rattle.dispatcher.proofs.RealRuns.{Both, both_length, both_more, both_none, follows_accounts, follows_calls, follows_obeys}
+use Rattle.dispatcher.proofs.RealRuns.{Ran, both_length, follows_accounts, follows_calls, follows_obeys, ran_more, ran_none}
 use Rattle.dispatcher.proofs.dispatcher.running.run.Goals as goal
 
 pub returns-in_err-push-clause-law : goal.returns-in_err-push-clause-law
@@ -13,7 +13,8 @@ pub returns-in_err-push-clause-account : goal.returns-in_err-push-clause-account
 returns-in_err-push-clause-account g c = IfOk-from_err c.from_residual.result _ c.from_residual.ensures.0
 
 pub loop-call-init : goal.loop-call-init
-loop-call-init g c b s = both_none b _ _ s c.new-events.ensures.items
+loop-call-init g c b s =
+    ran_none g.B.Trays.trays g.B.Trays.tray_limit g.B.Trays.total_limit g.B.Item.Timed.interval b c.new-dispatcher.result _ s c.new-events.ensures.items
 
 pub loop-call-preserved : goal.loop-call-preserved
 loop-call-preserved g c b s =
@@ -23,11 +24,10 @@ loop-call-preserved g c b s =
     let so_far = take l.call-index calls in
     let more : take (l.call-index + 1) calls ≡ so_far ++ call ∷ [] =
     take_more calls l.call-index call c.loop-call-test.true ∙ ap (λ x. so_far ++ x ∷ []) (sym c.call-item.is) in
-    let v : View g.row.B-Item.Denot = view g.B.Trays.trays g.B.Trays.tray_limit g.B.Trays.total_limit g.B.Item.Timed.interval l.dispatcher in
-    let w : View g.row.B-Item.Denot = view g.B.Trays.trays g.B.Trays.tray_limit g.B.Trays.total_limit g.B.Item.Timed.interval c.perform.new.self in
-    subst (λ cs. Both b w cs (vec_items c.push.new.self)) (sym more)
-    (subst (Both b w (so_far ++ call ∷ [])) (sym c.in_ok-push.ensures.items)
-    (both_more b v w so_far (vec_items l.events) call c.perform.result (l.invariant b s) c.perform.ensures.steps))
+    let ran = Ran g.B.Trays.trays g.B.Trays.tray_limit g.B.Trays.total_limit g.B.Item.Timed.interval b c.perform.new.self in
+    subst (λ cs. ran cs (vec_items c.push.new.self)) (sym more)
+    (subst (ran (so_far ++ call ∷ [])) (sym c.in_ok-push.ensures.items)
+    (ran_more g.B.Trays.trays g.B.Trays.tray_limit g.B.Trays.total_limit g.B.Item.Timed.interval b l.dispatcher c.perform.new.self so_far (vec_items l.events) call c.perform.result (l.invariant b s) c.perform.ensures.steps))
 
 pub returns : goal.returns
 returns g c =
@@ -35,7 +35,9 @@ returns g c =
     let calls = c.args.calls.now in
     let b = terms g.B.Trays.trays g.B.Trays.tray_limit g.B.Trays.total_limit g.B.Item.Timed.interval c.args.bank in
     let v : View g.row.B-Item.Denot = view g.B.Trays.trays g.B.Trays.tray_limit g.B.Trays.total_limit g.B.Item.Timed.interval l.dispatcher in
-    let f = subst (λ cs. Both b v cs (vec_items l.events)) (take_all l.call-index calls c.loop-call-test.false) (l.invariant b c.new-dispatcher.ensures) in
+    let ran = Ran g.B.Trays.trays g.B.Trays.tray_limit g.B.Trays.total_limit g.B.Item.Timed.interval b l.dispatcher in
+    let r = subst (λ cs. ran cs (vec_items l.events)) (take_all l.call-index calls c.loop-call-test.false) (l.invariant b c.new-dispatcher.ensures) in
+    let f = r.both in
     let h = vec_items l.events in
     let n = both_length b v calls h f in
     record {
@@ -44,5 +46,5 @@ returns g c =
         after_each = λ k less. f.obeyed k (omega arith);
         law = follows_obeys b v calls h f.follows;
       };
-      account = record { led = f.follows; after_each = f.accounted; accounts = follows_accounts b v calls h f.follows };
+      account = record { led = f.follows; after_each = r.accounted; accounts = follows_accounts b v calls h f.follows };
     }

@@ -2,11 +2,11 @@ use Rattle.std.proofs.Common.{take, vec_items}
 use Rattle.dispatcher.specs.Machine.{Terms, start}
 use Rattle.dispatcher.specs.Shown.{Shows}
 use Rattle.dispatcher.specs.Views.{view}
-use Rattle.dispatcher.proofs.RealRuns.{Both}
+use Rattle.dispatcher.proofs.RealRuns.{Ran}
 use Rattle.dispatcher.proofs.dispatcher.running.run.Given as goal
 
--- the calls so far happened as the machine has them
+-- the calls so far happened as the machine has them, and every one of them led to a dispatcher that obeyed
 abbrev pub invariant-loop-call : goal.invariant-loop-call
 invariant-loop-call g l =
     (b : Terms g.row.B-Item.Denot) → Shows b (view g.B.Trays.trays g.B.Trays.tray_limit g.B.Trays.total_limit g.B.Item.Timed.interval l.initial.dispatcher) start
-    → Both b (view g.B.Trays.trays g.B.Trays.tray_limit g.B.Trays.total_limit g.B.Item.Timed.interval l.dispatcher) (take l.call-index l.calls) (vec_items l.events)
+    → Ran g.B.Trays.trays g.B.Trays.tray_limit g.B.Trays.total_limit g.B.Item.Timed.interval b l.dispatcher (take l.call-index l.calls) (vec_items l.events)
