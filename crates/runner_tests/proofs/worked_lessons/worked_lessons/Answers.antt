@@ -1,4 +1,4 @@
-use Rattle.std.proofs.Common.{◌≤◌, [], ◌∷◌, None, refl, arith, rules}
+use Rattle.std.proofs.Common.{[], ◌∷◌, None, refl, arith, rules}
 use Rattle.std.specs.Fmt.{digits}
 use Rattle.steps.specs.declared.step.Step.TheVariants.{Post, Dispatch, Turn}
 use Rattle.runner.specs.Listings.{of_notes}
