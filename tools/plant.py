@@ -77,7 +77,9 @@ def dependents() -> dict[str, set[str]]:
     for line in (ROOT / "crates.txt").read_text().splitlines():
         if ":" in line and not line.startswith("#"):
             name, _, rest = line.partition(":")
-            deps[name.strip()] = set(rest.split())
+            deps[name.split()[0]] = set(rest.split())
+    # what no line names is a library of the toolchain
+    deps = {crate: {other for other in below if other in deps} for crate, below in deps.items()}
     return {
         crate: {other for other in deps if crate == other or crate in reached(other, deps)}
         for crate in deps
