@@ -4,3 +4,4 @@
 pub mod bank;
 pub mod cell;
 pub mod first_put;
+pub mod serving;

@@ -5,3 +5,4 @@ pub mod message;
 pub mod note;
 pub mod pen;
 pub mod refusal;
+pub mod unknown;

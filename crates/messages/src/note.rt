@@ -1,14 +1,16 @@
 // Notes: what a pad reports besides the pen.
 ghost use Rattle.std.specs.Prelude.{◌≡◌, Some};
-ghost use Rattle.messages.specs.Notes.{kind_number};
+ghost use Rattle.messages.specs.Notes.{IsKindOf, kind_number};
 ghost use Rattle.messages.specs.Texts.{kind_name, note_text};
 
 use crate::message::{Message, Timed};
+use crate::unknown::UnknownNumber;
 use std::fmt;
 
 // What a note reports.
-#[derive(Clone, Copy, Debug, PartialEq, Eq)]
+#[derive(Clone, Copy, Debug, Default, PartialEq, Eq)]
 pub enum NoteKind {
+    #[default]
     PageKey = 11,
     RaisedHand = 12,
     Tilt = 13,
@@ -23,8 +25,24 @@ impl NoteKind {
     }
 }
 
+// The kind of a number.
+impl TryFrom<u8> for NoteKind {
+    type Error = UnknownNumber;
+
+    ghost try_from_gives = { IsKindOf };
+
+    fn try_from(number: u8) -> Result<NoteKind, UnknownNumber> {
+        match number {
+            11 => Ok(NoteKind::PageKey),
+            12 => Ok(NoteKind::RaisedHand),
+            13 => Ok(NoteKind::Tilt),
+            _ => Err(UnknownNumber(number)),
+        }
+    }
+}
+
 // One report of a pad, with an interval of its own and a payload that the hub does not look into.
-#[derive(Clone, Copy, Debug, PartialEq, Eq)]
+#[derive(Clone, Copy, Debug, Default, PartialEq, Eq)]
 pub struct Note {
     pub pad: u8,
     pub kind: NoteKind,

@@ -1,14 +1,16 @@
 // Messages of a pen on a pad.
 ghost use Rattle.std.specs.Prelude.{◌≡◌, Some};
-ghost use Rattle.messages.specs.Pens.{told_by};
+ghost use Rattle.messages.specs.Pens.{IsStageOf, told_by};
 ghost use Rattle.messages.specs.Texts.{pen_text, stage_name};
 
 use crate::message::{Message, Timed};
+use crate::unknown::UnknownNumber;
 use std::fmt;
 
 // Where in a line the pen is: it is set down, moves on, or is lifted.
-#[derive(Clone, Copy, Debug, PartialEq, Eq)]
+#[derive(Clone, Copy, Debug, Default, PartialEq, Eq)]
 pub enum Stage {
+    #[default]
     Down = 1,
     Sample = 2,
     Up = 3,
@@ -34,8 +36,24 @@ impl Stage {
     }
 }
 
+// The stage of the pen messages of a kind.
+impl TryFrom<u8> for Stage {
+    type Error = UnknownNumber;
+
+    ghost try_from_gives = { IsStageOf };
+
+    fn try_from(kind: u8) -> Result<Stage, UnknownNumber> {
+        match kind {
+            1 => Ok(Stage::Down),
+            2 => Ok(Stage::Sample),
+            3 => Ok(Stage::Up),
+            _ => Err(UnknownNumber(kind)),
+        }
+    }
+}
+
 // One report of a pen: its place on the pad and the force on its tip.
-#[derive(Clone, Copy, Debug, PartialEq, Eq)]
+#[derive(Clone, Copy, Debug, Default, PartialEq, Eq)]
 pub struct PenMessage {
     pub pad: u8,
     pub stage: Stage,

@@ -2,40 +2,42 @@
 ghost use Rattle.std.specs.Prelude.{◌≡◌};
 ghost use Rattle.messages.specs.Refusals.{refusal_number};
 
+use thiserror::Error;
+
 // Each reason has a number of its own, by which listings and other programs know it.
-#[derive(Clone, Copy, Debug, PartialEq, Eq)]
+#[derive(Clone, Copy, Debug, PartialEq, Eq, Error)]
 pub enum Refusal {
-    // the dispatcher has not been opened
+    #[error("the dispatcher has not been opened")]
     Shut = 1,
-    // the dispatcher has been opened before
+    #[error("the dispatcher has been opened before")]
     AlreadyOpen = 2,
-    // a first cycle or a first receipt over 4,000,000,000
+    #[error("a first cycle or a first receipt over 4,000,000,000")]
     StartTooHigh = 3,
-    // a bank of fewer than two trays, or one that holds a cell
+    #[error("a bank of fewer than two trays, or one that holds a cell")]
     UnfitBank = 4,
-    // an interval of 0, or of more cycles than there are trays less one
+    #[error("an interval of 0, or of more cycles than there are trays less one")]
     IntervalOutOfRange = 5,
-    // the tray is full, or the bank is
+    #[error("the tray is full, or the bank is")]
     Full = 6,
-    // the next receipt is 4,000,000,000, so none is left to give
+    #[error("the next receipt is 4,000,000,000, so none is left to give")]
     ReceiptsUsedUp = 7,
-    // the timer's cycle is not the next one
+    #[error("the timer's cycle is not the next one")]
     NotNextCycle = 8,
-    // late messages wait to be named
+    #[error("late messages wait to be named")]
     LateWaiting = 9,
-    // the next cycle would be over 4,000,000,000
+    #[error("the next cycle would be over 4,000,000,000")]
     CyclesUsedUp = 10,
-    // a phase of another cycle, or a second beginning
+    #[error("a phase of another cycle, or a second beginning")]
     OutOfPhase = 11,
-    // a warning told more than 1,000 services
+    #[error("a warning told more than 1,000 services")]
     TooManyServices = 12,
-    // the header of a steps file is unlawful, or the file is too long
+    #[error("the header of a steps file is unlawful, or the file is too long")]
     BadHeader = 13,
-    // a record of a steps file is unlawful or cut short
+    #[error("a record of a steps file is unlawful or cut short")]
     BadRecord = 14,
-    // the bank has no such tray
+    #[error("the bank has no such tray")]
     NoSuchTray = 15,
-    // the output has fewer than 65,536 bytes
+    #[error("the output has fewer than 65,536 bytes")]
     OutputTooShort = 16,
 }
 
