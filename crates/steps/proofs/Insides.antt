@@ -1,8 +1,8 @@
 -- Bytes in their ranges: how far a list stays inside is how far some list that lies within begins alike.
-use Rattle.std.proofs.Common.{◌≡◌, ℕ, ◌+◌, ◌<◌, ◌≤◌, Bool, true, false, ◌&&◌, eqb, leb, List, [], ◌∷◌, length, get_or, take, drop, Err, sym, refl, ap, ◌∙◌, subst, ⊎_elim, arith}
+use Rattle.std.proofs.Common.{◌≡◌, ℕ, ◌+◌, ◌<◌, ◌≤◌, Bool, true, false, ◌&&◌, cond, eqb, leb, List, [], ◌∷◌, length, take, Err, sym, refl, ap, ◌∙◌, subst, ⊎_elim, arith}
 use Rattle.std.proofs.lemmas.Bool.{and_parts, cases_Bool, cond-true, cond-false, leb-true, eqb-true, le-leb, and_from, true≢false}
-use Rattle.std.proofs.lemmas.List.{drop_more, drop_all}
-use Rattle.std.specs.List.{AllByRecursion}
+use Rattle.std.specs.List.{AllByRecursion, prefix_len, zip}
+use Rattle.steps.specs.declared.fault.Unlawful.{Unlawful}
 use Rattle.steps.specs.declared.ranges.ByteRange.{ByteRange}
 use Rattle.steps.specs.Beginnings.{common, Longest}
 use Rattle.steps.specs.Layout.{Byte}
@@ -82,8 +82,8 @@ pub inside_longest : (rs : List ByteRange) → AllByRecursion Sound rs → (bs :
 inside_longest rs s bs = record { shared = inside_shared rs s bs; most = λ g w. inside_most rs g bs w }
 
 -- what is cut short where the values of V are just the lists within the ranges
-pub cut_refused : {V : Type 0} {Is : V → List ℕ → Type 0} (rs : List ByteRange) → AllByRecursion Sound rs → ((g : List ℕ) → Within rs g → SomeIs Is g) → ((g : List ℕ) → SomeIs Is g → Within rs g) → (bs : List ℕ) (k : ℕ) → Cut rs bs (Err k) → Reads Is (length rs) bs (Err k)
-cut_refused {V} {Is} rs s to from bs k c =
+pub cut_refused : {V : Type 0} {Is : V → List ℕ → Type 0} (rs : List ByteRange) → AllByRecursion Sound rs → ((g : List ℕ) → Within rs g → SomeIs Is g) → ((g : List ℕ) → SomeIs Is g → Within rs g) → (bs : List ℕ) (err : Unlawful) → Cut rs bs (Err err) → Reads Is (length rs) bs (Err err)
+cut_refused {V} {Is} rs s to from bs err c =
     (c.1, subst (Longest (SomeIs Is) bs) (sym c.0) (longest_same to from (inside_longest rs s bs)))
 
 -- bytes that are all inside
@@ -116,31 +116,14 @@ inside_few (r ∷ rs) (b ∷ bs) =
     (λ e. let i : inside (r ∷ rs) (b ∷ bs) ≡ 0 = inside_out r rs b bs e in omega arith)
     (cases_Bool (holds r b))
 
-inside_nothing : (rs : List ByteRange) → inside rs [] ≡ 0
-inside_nothing [] = refl
-inside_nothing (r ∷ rs) = refl
+-- what a walk along both lists tests of each range and its byte
+abbrev pub held : ByteRange × ℕ → Bool
+held p = leb p.0.low p.1 && leb p.1 p.0.high
 
--- the turns of a loop that counts: n is what it is to answer
-module _ (rs : List ByteRange) (bs : List ℕ) (i n : ℕ) (inv : i + inside (drop i rs) (drop i bs) ≡ n) where
-  inside_from : (d : ByteRange) → i < length rs → i < length bs → inside (drop i rs) (drop i bs) ≡ inside (get_or rs i d ∷ drop (i + 1) rs) (get_or bs i 0 ∷ drop (i + 1) bs)
-  inside_from d r b = ap (λ x. inside x (drop i bs)) (drop_more rs i d r) ∙ ap (inside (get_or rs i d ∷ drop (i + 1) rs)) (drop_more bs i 0 b)
-
-  pub count_on : (d : ByteRange) → i < length rs → i < length bs → (leb (get_or rs i d).low (get_or bs i 0) && leb (get_or bs i 0) (get_or rs i d).high) ≡ true → i + 1 + inside (drop (i + 1) rs) (drop (i + 1) bs) ≡ n
-  unfolding holds
-  count_on d r b e =
-      let s : inside (drop i rs) (drop i bs) ≡ 1 + inside (drop (i + 1) rs) (drop (i + 1) bs) = inside_from d r b ∙ inside_in (get_or rs i d) (drop (i + 1) rs) (get_or bs i 0) (drop (i + 1) bs) e in omega arith
-
-  pub count_outside : (d : ByteRange) → i < length rs → i < length bs → (leb (get_or rs i d).low (get_or bs i 0) && leb (get_or bs i 0) (get_or rs i d).high) ≡ false → i ≡ n
-  unfolding holds
-  count_outside d r b e =
-      let s : inside (drop i rs) (drop i bs) ≡ 0 = inside_from d r b ∙ inside_out (get_or rs i d) (drop (i + 1) rs) (get_or bs i 0) (drop (i + 1) bs) e in omega arith
-
-  pub count_cut : length bs ≤ i → i ≡ n
-  count_cut b =
-      let s : inside (drop i rs) (drop i bs) ≡ 0 = ap (inside (drop i rs)) (drop_all i bs b) ∙ inside_nothing (drop i rs) in omega arith
-
-  pub count_done : length rs ≤ i → i ≡ n
-  count_done r = let s : inside (drop i rs) (drop i bs) ≡ 0 = ap (λ x. inside x (drop i bs)) (drop_all i rs r) in omega arith
+pub prefix_len-zip : (rs : List ByteRange) (bs : List ℕ) → prefix_len held (zip rs bs) ≡ inside rs bs
+prefix_len-zip [] bs = refl
+prefix_len-zip (r ∷ rs) [] = refl
+prefix_len-zip (r ∷ rs) (b ∷ bs) = ap (λ n. cond (held (r, b)) (1 + n) 0) (prefix_len-zip rs bs)
 
 pub within_bytes : (rs : List ByteRange) → AllByRecursion Sound rs → (g : List ℕ) → Within rs g → AllByRecursion Byte g
 within_bytes [] s [] w = tt

@@ -3,6 +3,8 @@ mod Choosing
 pub mod Counting
 mod Headers
 mod Insides
+mod Known
+mod Mapped
 pub mod Lengths
 mod Numbered
 mod Posts

@@ -1,6 +1,7 @@
 -- Bytes that lie each in a range of its own.
 use Rattle.std.specs.Prelude.{◌≡◌, ℕ, ◌+◌, ◌<◌, ◌≤◌, cond, ◌&&◌, List, [], ◌∷◌, length, take, Ok, Err, Result, nat_le}
 use Rattle.std.specs.Borrow.{Bor}
+use Rattle.steps.specs.declared.fault.Unlawful.{Unlawful}
 use Rattle.steps.specs.declared.ranges.ByteRange.{ByteRange}
 
 -- how many bytes from the start lie each in its range
@@ -17,6 +18,6 @@ Within (r ∷ rs) [] = ⊥
 Within (r ∷ rs) (b ∷ bytes) = ((r.low ≤ b) × (b ≤ r.high)) × Within rs bytes
 
 -- the first bytes, if each lies in its range, or how many do
-abbrev pub Cut : List ByteRange → List ℕ → Result (Bor (List ℕ)) ℕ → Type 0
+abbrev pub Cut : List ByteRange → List ℕ → Result (Bor (List ℕ)) Unlawful → Type 0
 Cut ranges bytes (Ok part) = (part.now ≡ take (length ranges) bytes) × Within ranges part.now
-Cut ranges bytes (Err k) = (k ≡ inside ranges bytes) × (k < length ranges)
+Cut ranges bytes (Err e) = (e.lawful_up_to ≡ inside ranges bytes) × (e.lawful_up_to < length ranges)

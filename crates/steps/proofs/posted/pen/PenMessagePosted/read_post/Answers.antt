@@ -1,7 +1,9 @@
-use Rattle.std.proofs.Common.{Err, subst}
+use Rattle.std.proofs.Common.{Err, rules, subst}
 use Rattle.std.proofs.lemmas.Result.{err_from_is_err_and}
+use Rattle.messages.specs.Pens.{told_by}
 use Rattle.steps.specs.Ranges.{Cut}
-use Rattle.steps.proofs.Posts.{pen_refused}
+use Rattle.steps.proofs.Known.{known}
+use Rattle.steps.proofs.Posts.{pen_refused, told_of}
 use Rattle.steps.proofs.posted.pen.PenMessagePosted.read_post.Goals as goal
 
 pub returns-in_err-record : goal.returns-in_err-record
@@ -11,3 +13,6 @@ returns-in_err-record c =
     let bytes = c.args.bytes.now in
     let short = subst (λ rs. Cut rs bytes (Err k)) c.post_ranges-ranges.ensures c.in_err-record.ensures in
     rw (p.1, p.2) (pen_refused bytes k short)
+
+pub unwrap-requires : goal.unwrap-requires
+unwrap-requires c = known (λ s. (told_by s).kind) _ _ c.try_from.ensures (told_of _ (search rules) (search rules))
