@@ -5,14 +5,12 @@ use steps::steps_file::check;
 #[test]
 fn a_file_that_breaks_off_is_at_fault_at_its_length(rt: HostRuntime) {
     for length in 0usize..18 {
-        let expected = if length < 8 {
-            in_header(length)
-        } else if length == 8 {
-            lawful(4, 0)
-        } else {
-            in_record(length)
+        let expected = match length {
+            0..8 => in_header(length),
+            8 => lawful(4, 0),
+            _ => in_record(length),
         };
-        assert_eq!(rt; check(&NOTE_FILE[0..length]), expected);
+        assert_eq!(rt; check(&NOTE_FILE[..length]), expected);
     }
     assert_eq!(rt; check(&NOTE_FILE), lawful(4, 1));
 }
@@ -21,21 +19,17 @@ fn a_file_that_breaks_off_is_at_fault_at_its_length(rt: HostRuntime) {
 fn a_wrong_byte_before_the_cut_is_the_fault(rt: HostRuntime) {
     let mut file = NOTE_FILE;
     file[11] = 14;
-    assert_eq!(rt; check(&file[0..12]), in_record(11));
-    assert_eq!(rt; check(&file[0..17]), in_record(11));
-    assert_eq!(rt; check(&file[0..11]), in_record(11));
+    assert_eq!(rt; check(&file[..12]), in_record(11));
+    assert_eq!(rt; check(&file[..17]), in_record(11));
+    assert_eq!(rt; check(&file[..11]), in_record(11));
 }
 
 // A header, and a dispatch at each record's place.
 fn dispatches() -> [u8; 30_009] {
     let mut file = [0u8; 30_009];
-    for (i, byte) in [0x45u8, 0x56, 0x51, 0, 1, 2, 4, 1].iter().enumerate() {
-        if i < 8 {
-            file[i] = *byte;
-        }
-    }
-    for i in 0usize..3_000 {
-        file[8 + 10 * i] = 2;
+    file[..8].copy_from_slice(&[0x45, 0x56, 0x51, 0, 1, 2, 4, 1]);
+    for record in file[8..].chunks_exact_mut(10) {
+        record[0] = 2;
     }
     file
 }
@@ -43,15 +37,15 @@ fn dispatches() -> [u8; 30_009] {
 #[test]
 fn three_thousand_records_are_lawful_and_no_byte_more(rt: HostRuntime) {
     let file = dispatches();
-    assert_eq!(rt; check(&file[0..30_008]), lawful(4, 3_000));
+    assert_eq!(rt; check(&file[..30_008]), lawful(4, 3_000));
     assert_eq!(rt; check(&file), in_header(30_008));
 }
 
 #[test]
 fn the_last_record_may_be_missing_but_not_cut(rt: HostRuntime) {
     let file = dispatches();
-    assert_eq!(rt; check(&file[0..29_998]), lawful(4, 2_999));
-    assert_eq!(rt; check(&file[0..30_007]), in_record(30_007));
+    assert_eq!(rt; check(&file[..29_998]), lawful(4, 2_999));
+    assert_eq!(rt; check(&file[..30_007]), in_record(30_007));
 }
 
 #[test]
@@ -59,5 +53,5 @@ fn a_file_that_is_too_long_is_not_looked_at(rt: HostRuntime) {
     let mut file = dispatches();
     file[0] = 0;
     assert_eq!(rt; check(&file), in_header(30_008));
-    assert_eq!(rt; check(&file[0..30_008]), in_header(0));
+    assert_eq!(rt; check(&file[..30_008]), in_header(0));
 }
