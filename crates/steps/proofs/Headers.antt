@@ -2,6 +2,7 @@
 use Rattle.std.proofs.Common.{◌≡◌, ℕ, ◌≤◌, List, get_or, Err, sym, refl, subst, ⊎_elim, arith, rules}
 use Rattle.std.proofs.lemmas.Bool.{cases_eq}
 use Rattle.steps.specs.declared.fault.Unlawful.{Unlawful}
+use Rattle.steps.specs.declared.ranges.ByteRange.{ByteRange}
 use Rattle.steps.specs.declared.header.MessageType.{MessageType}
 use Rattle.steps.specs.declared.header.MessageType.TheVariants as type
 use Rattle.steps.specs.declared.header.BankKind.{BankKind}
@@ -42,5 +43,5 @@ header_within g s =
     let b = bank_bounds s.0.bank in
     let w : Within ranges_of_header (header_bytes s.0) = search rules in subst (Within ranges_of_header) (sym s.1.0) w
 
-pub header_refused : (file : List ℕ) (err : Unlawful) → Cut ranges_of_header file (Err err) → Reads IsHeader 8 file (Err err)
-header_refused file err c = cut_refused ranges_of_header (search rules) within_header header_within file err c
+pub header_refused : (rs : List ByteRange) (table : rs ≡ ranges_of_header) (file : List ℕ) (err : Unlawful) → Cut rs file (Err err) → Reads IsHeader 8 file (Err err)
+header_refused rs table file err c = cut_refused ranges_of_header (search rules) within_header header_within file err (subst (λ x. Cut x file (Err err)) table c)

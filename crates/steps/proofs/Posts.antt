@@ -11,6 +11,7 @@ use Rattle.messages.specs.declared.note.NoteKind.TheVariants.{PageKey, RaisedHan
 use Rattle.messages.specs.Notes.{kind_number}
 use Rattle.messages.specs.Pens.{told_by}
 use Rattle.steps.specs.declared.fault.Unlawful.{Unlawful}
+use Rattle.steps.specs.declared.ranges.ByteRange.{ByteRange}
 use Rattle.steps.specs.Formats.{note_format, note_laid, pen_format, pen_laid, stage_byte}
 use Rattle.steps.specs.Layout.{Byte}
 use Rattle.steps.specs.Ranges.{Cut, Within}
@@ -62,8 +63,8 @@ within_pen g s =
     let a : AllByRecursion Byte (1 ∷ pen_laid s.0) = subst (AllByRecursion Byte) s.1.0 s.1.1 in
     let w : Within pen_ranges (1 ∷ pen_laid s.0) = search rules in subst (Within pen_ranges) (sym s.1.0) w
 
-pub pen_refused : (bytes : List ℕ) (err : Unlawful) → Cut pen_ranges bytes (Err err) → Reads (IsPost pen_format) 10 bytes (Err err)
-pen_refused bytes err c = cut_refused pen_ranges (search rules) pen_within within_pen bytes err c
+pub pen_refused : (rs : List ByteRange) (table : rs ≡ pen_ranges) (bytes : List ℕ) (err : Unlawful) → Cut rs bytes (Err err) → Reads (IsPost pen_format) 10 bytes (Err err)
+pen_refused rs table bytes err c = cut_refused pen_ranges (search rules) pen_within within_pen bytes err (subst (λ x. Cut x bytes (Err err)) table c)
 
 note_within : (g : List ℕ) → Within note_ranges g → SomeIs (IsPost note_format) g
 note_within g w =
@@ -82,5 +83,5 @@ within_note g s =
     let a : AllByRecursion Byte (1 ∷ note_laid s.0) = subst (AllByRecursion Byte) s.1.0 s.1.1 in
     let w : Within note_ranges (1 ∷ note_laid s.0) = search rules in subst (Within note_ranges) (sym s.1.0) w
 
-pub note_refused : (bytes : List ℕ) (err : Unlawful) → Cut note_ranges bytes (Err err) → Reads (IsPost note_format) 10 bytes (Err err)
-note_refused bytes err c = cut_refused note_ranges (search rules) note_within within_note bytes err c
+pub note_refused : (rs : List ByteRange) (table : rs ≡ note_ranges) (bytes : List ℕ) (err : Unlawful) → Cut rs bytes (Err err) → Reads (IsPost note_format) 10 bytes (Err err)
+note_refused rs table bytes err c = cut_refused note_ranges (search rules) note_within within_note bytes err (subst (λ x. Cut x bytes (Err err)) table c)
