@@ -67,6 +67,7 @@ impl Header {
     {
         let ranges = header_ranges();
         let bytes = cut(file, &ranges)?;
+        // Each byte lies in its range, so its number has a value.
         Ok(Header {
             message_type: MessageType::try_from(bytes[5]).unwrap(),
             trays: bytes[6],

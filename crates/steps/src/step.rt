@@ -61,36 +61,15 @@ fn read_number(bytes: &[u8], step: u8) -> Result<u32, Unlawful>
 fn bare_ranges(step: u8) -> [ByteRange; 10]
     ensures { result ≡ ranges_of_bare step }
 {
-    let zero = ByteRange::only(0);
-    [
-        ByteRange::only(step),
-        zero,
-        zero,
-        zero,
-        zero,
-        zero,
-        zero,
-        zero,
-        zero,
-        zero,
-    ]
+    let mut ranges = [ByteRange::only(0); 10];
+    ranges[0] = ByteRange::only(step);
+    ranges
 }
 
 fn numbered_ranges(step: u8) -> [ByteRange; 10]
     ensures { result ≡ ranges_of_numbered step }
 {
-    let zero = ByteRange::only(0);
-    let any = ByteRange::ANY;
-    [
-        ByteRange::only(step),
-        zero,
-        zero,
-        zero,
-        any,
-        any,
-        any,
-        any,
-        zero,
-        zero,
-    ]
+    let mut ranges = bare_ranges(step);
+    ranges[4..8].fill(ByteRange::ANY);
+    ranges
 }

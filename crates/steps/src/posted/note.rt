@@ -19,6 +19,7 @@ impl Posted for Note {
     fn read_post(bytes: &[u8]) -> Result<Note, Unlawful> {
         let ranges = post_ranges();
         let record = cut(bytes, &ranges)?;
+        // The kind's byte lies in its range.
         Ok(Note {
             pad: record[1],
             interval: record[2],

@@ -19,6 +19,7 @@ impl Posted for PenMessage {
     fn read_post(bytes: &[u8]) -> Result<PenMessage, Unlawful> {
         let ranges = post_ranges();
         let record = cut(bytes, &ranges)?;
+        // The stage's byte lies in its range, and is the kind of the stage's messages.
         Ok(PenMessage {
             pad: record[1],
             stage: Stage::try_from(record[2]).unwrap(),
