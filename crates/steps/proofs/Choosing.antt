@@ -7,7 +7,7 @@ use Rattle.steps.specs.declared.step.Step.{Step}
 use Rattle.steps.specs.declared.step.Step.TheVariants.{Post, Dispatch, Turn, Name, Warn}
 use Rattle.steps.specs.Beginnings.{common}
 use Rattle.steps.specs.Layout.{Format, bare_bytes, step_bytes}
-use Rattle.steps.specs.Reading.{IsBare, IsNumbered, IsPost, IsStep, Reads, SomeIs}
+use Rattle.steps.specs.Reading.{IsNumbered, IsPost, IsStep, Reads, SomeIs}
 use Rattle.steps.proofs.Alike.{common_apart, common_fits}
 
 abbrev step_number : {M : Type 0} → Step M → ℕ
@@ -59,26 +59,12 @@ module _ {M : Type 0} (f : Format M) where
   of_post Name g e is = absurd (omega arith)
   of_post (Warn n) g e is = absurd (omega arith)
 
-  of_dispatch : (s : Step M) (g : List ℕ) → step_number s ≡ 2 → IsStep f s g → SomeIs (IsBare 2) g
-  of_dispatch (Post m) g e is = absurd (omega arith)
-  of_dispatch Dispatch g e is = (tt, is)
-  of_dispatch (Turn n) g e is = absurd (omega arith)
-  of_dispatch Name g e is = absurd (omega arith)
-  of_dispatch (Warn n) g e is = absurd (omega arith)
-
   of_turn : (s : Step M) (g : List ℕ) → step_number s ≡ 3 → IsStep f s g → SomeIs (IsNumbered 3) g
   of_turn (Post m) g e is = absurd (omega arith)
   of_turn Dispatch g e is = absurd (omega arith)
   of_turn (Turn n) g e is = (n, is)
   of_turn Name g e is = absurd (omega arith)
   of_turn (Warn n) g e is = absurd (omega arith)
-
-  of_name : (s : Step M) (g : List ℕ) → step_number s ≡ 4 → IsStep f s g → SomeIs (IsBare 4) g
-  of_name (Post m) g e is = absurd (omega arith)
-  of_name Dispatch g e is = absurd (omega arith)
-  of_name (Turn n) g e is = absurd (omega arith)
-  of_name Name g e is = (tt, is)
-  of_name (Warn n) g e is = absurd (omega arith)
 
   of_warn : (s : Step M) (g : List ℕ) → step_number s ≡ 5 → IsStep f s g → SomeIs (IsNumbered 5) g
   of_warn (Post m) g e is = absurd (omega arith)
@@ -91,14 +77,8 @@ module _ {M : Type 0} (f : Format M) where
     pub post_refused : slice_get bytes 0 ≡ Some 1 → Reads (IsPost f) 10 bytes (Err err) → Reads (IsStep f) 10 bytes (Err err)
     post_refused e r = among 1 Post (λ m g is. is) of_post bytes err e r
 
-    pub dispatch_refused : slice_get bytes 0 ≡ Some 2 → Reads (IsBare 2) 10 bytes (Err err) → Reads (IsStep f) 10 bytes (Err err)
-    dispatch_refused e r = among 2 (λ u. Dispatch) (λ u g is. is) of_dispatch bytes err e r
-
     pub turn_refused : slice_get bytes 0 ≡ Some 3 → Reads (IsNumbered 3) 10 bytes (Err err) → Reads (IsStep f) 10 bytes (Err err)
     turn_refused e r = among 3 Turn (λ n g is. is) of_turn bytes err e r
-
-    pub name_refused : slice_get bytes 0 ≡ Some 4 → Reads (IsBare 4) 10 bytes (Err err) → Reads (IsStep f) 10 bytes (Err err)
-    name_refused e r = among 4 (λ u. Name) (λ u g is. is) of_name bytes err e r
 
     pub warn_refused : slice_get bytes 0 ≡ Some 5 → Reads (IsNumbered 5) 10 bytes (Err err) → Reads (IsStep f) 10 bytes (Err err)
     warn_refused e r = among 5 Warn (λ n g is. is) of_warn bytes err e r

@@ -1,6 +1,6 @@
 mod Alike
 mod Choosing
-pub mod Counting
+mod Counting
 mod Headers
 mod Insides
 mod Known

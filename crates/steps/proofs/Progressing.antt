@@ -14,12 +14,6 @@ use Rattle.steps.specs.Reading.{IsStep, Reads}
 use Rattle.steps.proofs.Lengths.{file_length, step_length}
 use Rattle.steps.proofs.Stopping.{record_faulty}
 
--- a record lies within its file
-pub within : {M : Type 0} (f : Format M) (s : Step M) (file : List ℕ) (p : ℕ) → IsStep f s (take 10 (drop p file)) → p + 10 ≤ length file
-within f s file p is =
-    let n = ap length is.0 ∙ step_length f s in
-    let l = length-take 10 (drop p file) in let d = length-drop p file in omega arith
-
 module _ {M : Type 0} (f : Format M) (r : Records M) (ss : List (Step M)) (read : HasRead f r ss) where
   position_is : r.position ≡ 8 + 10 * length ss
   position_is =

@@ -10,7 +10,8 @@ pub struct Fault {
     pub offset: usize,
 }
 
-// What is wrong with bytes that begin with no header or no record: how many of the first some header or record has too.
+// What is wrong with bytes that do not begin with a header, or with a record: how many of the first some header or
+// record has too.
 #[derive(Clone, Copy, Debug, PartialEq, Eq, Error)]
 #[error("only the first {lawful_up_to} bytes are lawful")]
 pub struct Unlawful {
