@@ -46,8 +46,8 @@ impl<'a, M: Posted> Records<'a, M> {
         self.header
     }
 
-    // The next record, or none at the end of the file. After a fault the reader stands where it stood, and would give
-    // it again and again: so this is not the `next` of an `Iterator`, over which a `for` has to end.
+    // The next record, or none at the end of the file. After a fault the reader stands where it stood and gives the fault
+    // again, so this is not the `next` of an `Iterator`, over which a `for` has to end.
     pub fn next(&mut self) -> Result<Option<Record<'a, M>>, Fault>
         ensures answer { Next M.Posted.format self.old self.new result }
         ensures law { (steps : List (Step M)) → HasRead M.Posted.format self.old steps → Law M.Posted.format steps self.new result }
