@@ -1,6 +1,7 @@
 -- How far two lists of bytes begin alike.
 use Rattle.std.proofs.Common.{◌≡◌, ℕ, zero, suc, ◌+◌, ◌<◌, ◌≤◌, true, false, eqb, List, [], ◌∷◌, ◌++◌, length, get_or, refl, ⊎_elim, arith}
 use Rattle.std.proofs.lemmas.Bool.{cases_Bool, cond-true, cond-false, eq-eqb, ne_eqb, eqb-true}
+use Rattle.std.proofs.lemmas.List.Sums.{common_prefix_len-le}
 use Rattle.steps.specs.Beginnings.{common, Longest}
 
 pub common_same : (x : ℕ) (xs ys : List ℕ) → common (x ∷ xs) (x ∷ ys) ≡ 1 + common xs ys
@@ -21,13 +22,7 @@ common_whole [] = refl
 common_whole (x ∷ xs) = let a = common_same x xs xs in let ih = common_whole xs in omega arith
 
 pub common_fits : (xs ys : List ℕ) → common xs ys ≤ length ys
-common_fits [] ys = omega arith
-common_fits (x ∷ xs) [] = omega arith
-common_fits (x ∷ xs) (y ∷ ys) =
-    ⊎_elim
-    (λ e. let a = on x y xs ys e in let ih = common_fits xs ys in omega arith)
-    (λ e. let a = off x y xs ys e in omega arith)
-    (cases_Bool (eqb x y))
+common_fits xs ys = (common_prefix_len-le (λ x y. eqb x y) xs ys).1
 
 -- what two lists share before more that they share
 pub common_after : (xs ys zs : List ℕ) → common (xs ++ ys) (xs ++ zs) ≡ length xs + common ys zs

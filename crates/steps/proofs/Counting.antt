@@ -1,5 +1,5 @@
 -- Reading on to the end of a file, one record after another.
-use Rattle.std.proofs.Common.{◌≡◌, ℕ, ◌+◌, ◌-◌, ◌*◌, ◌<◌, List, [], ◌∷◌, ◌++◌, length, sym, refl, ap, ◌∙◌, subst, append_assoc, append-nil, arith}
+use Rattle.std.proofs.Common.{◌≡◌, ℕ, ◌+◌, ◌*◌, List, [], ◌∷◌, ◌++◌, length, sym, ap, ◌∙◌, subst, append_assoc, arith}
 use Rattle.std.proofs.lemmas.List.{length_push}
 use Rattle.steps.specs.declared.fault.Fault.{Fault}
 use Rattle.steps.specs.declared.header.Header.{Header}
@@ -19,21 +19,6 @@ pub record Counted {M : Type 0} (f : Format M) (start here : Records M) (n : ℕ
   pub steps : (steps : List (Step M)) → HasRead f start steps → (more : List (Step M)) × HasRead f here (steps ++ more) × (length more ≡ n)
 
 module _ {M : Type 0} (f : Format M) where
-  pub count_none : (r : Records M) → Counted f r r 0
-  count_none r =
-      record {
-        file = refl;
-        header = refl;
-        position = omega arith;
-        steps = λ ss h. ([], subst (HasRead f r) (sym (append-nil ss)) h, refl);
-      }
-
-  -- what is left of the file falls with each record
-  pub fall : (before after : Records M) (x : Record M) → Gives f before after x → length after.file.now - after.position < length before.file.now - before.position
-  fall before after x gives =
-      let l : length after.file.now ≡ length before.file.now = ap (λ r. length r.now) gives.file in
-      omega (arith, gives.position, gives.within)
-
   module _ (start here after : Records M) (n : ℕ) (counted : Counted f start here n) where
     pub count_more : (x : Record M) → Gives f here after x → ((ss : List (Step M)) → HasRead f here ss → HasRead f after (ss ++ x.step ∷ [])) → Counted f start after (n + 1)
     count_more x gives law =

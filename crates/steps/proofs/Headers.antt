@@ -1,6 +1,8 @@
 -- The headers are just the lists of bytes within the header's ranges.
 use Rattle.std.proofs.Common.{◌≡◌, ℕ, ◌≤◌, List, get_or, Err, sym, refl, subst, ⊎_elim, arith, rules}
 use Rattle.std.proofs.lemmas.Bool.{cases_eq}
+use Rattle.steps.specs.declared.fault.Unlawful.{Unlawful}
+use Rattle.steps.specs.declared.ranges.ByteRange.{ByteRange}
 use Rattle.steps.specs.declared.header.MessageType.{MessageType}
 use Rattle.steps.specs.declared.header.MessageType.TheVariants as type
 use Rattle.steps.specs.declared.header.BankKind.{BankKind}
@@ -12,10 +14,10 @@ use Rattle.steps.specs.Tables.{ranges_of_header}
 use Rattle.steps.specs.Reading.{IsHeader, Reads, SomeIs}
 use Rattle.steps.proofs.Insides.{cut_refused}
 
-type_of : (n : ℕ) → 1 ≤ n → n ≤ 2 → (t : MessageType) × (type_number t ≡ n)
+pub type_of : (n : ℕ) → 1 ≤ n → n ≤ 2 → (t : MessageType) × (type_number t ≡ n)
 type_of n l h = ⊎_elim (λ e. (type.Pen, sym e)) (λ e. (type.Note, omega arith)) (cases_eq n 1)
 
-bank_of : (n : ℕ) → 1 ≤ n → n ≤ 2 → (b : BankKind) × (bank_number b ≡ n)
+pub bank_of : (n : ℕ) → 1 ≤ n → n ≤ 2 → (b : BankKind) × (bank_number b ≡ n)
 bank_of n l h = ⊎_elim (λ e. (Row, sym e)) (λ e. (Chain, omega arith)) (cases_eq n 1)
 
 said : (g : List ℕ) → Within ranges_of_header g → (h : Header) → type_number h.message_type ≡ get_or g 5 0 → h.trays ≡ get_or g 6 0 → bank_number h.bank ≡ get_or g 7 0 → IsHeader h g
@@ -41,5 +43,5 @@ header_within g s =
     let b = bank_bounds s.0.bank in
     let w : Within ranges_of_header (header_bytes s.0) = search rules in subst (Within ranges_of_header) (sym s.1.0) w
 
-pub header_refused : (file : List ℕ) (k : ℕ) → Cut ranges_of_header file (Err k) → Reads IsHeader 8 file (Err k)
-header_refused file k c = cut_refused ranges_of_header (search rules) within_header header_within file k c
+pub header_refused : (rs : List ByteRange) (table : rs ≡ ranges_of_header) (file : List ℕ) (err : Unlawful) → Cut rs file (Err err) → Reads IsHeader 8 file (Err err)
+header_refused rs table file err c = cut_refused ranges_of_header (search rules) within_header header_within file err (subst (λ x. Cut x file (Err err)) table c)

@@ -1,8 +1,9 @@
 -- Bytes in their ranges: how far a list stays inside is how far some list that lies within begins alike.
-use Rattle.std.proofs.Common.{◌≡◌, ℕ, ◌+◌, ◌<◌, ◌≤◌, Bool, true, false, ◌&&◌, eqb, leb, List, [], ◌∷◌, length, get_or, take, drop, Err, sym, refl, ap, ◌∙◌, subst, ⊎_elim, arith}
+use Rattle.std.proofs.Common.{◌≡◌, ℕ, ◌+◌, ◌<◌, ◌≤◌, Bool, true, false, ◌&&◌, cond, eqb, leb, List, [], ◌∷◌, length, map, take, Err, sym, refl, ap, ◌∙◌, subst, ⊎_elim, arith}
 use Rattle.std.proofs.lemmas.Bool.{and_parts, cases_Bool, cond-true, cond-false, leb-true, eqb-true, le-leb, and_from, true≢false}
-use Rattle.std.proofs.lemmas.List.{drop_more, drop_all}
-use Rattle.std.specs.List.{AllByRecursion}
+use Rattle.std.proofs.lemmas.List.Sums.{common_prefix_len-le}
+use Rattle.std.specs.List.{AllByRecursion, prefix_len, zip}
+use Rattle.steps.specs.declared.fault.Unlawful.{Unlawful}
 use Rattle.steps.specs.declared.ranges.ByteRange.{ByteRange}
 use Rattle.steps.specs.Beginnings.{common, Longest}
 use Rattle.steps.specs.Layout.{Byte}
@@ -17,24 +18,20 @@ Sound r = (r.low ≤ r.high) × (r.high < 256)
 abbrev In : ByteRange → ℕ → Type 0
 In r b = (r.low ≤ b) × (b ≤ r.high)
 
-holds : ByteRange → ℕ → Bool
+abbrev pub holds : ByteRange → ℕ → Bool
 holds r b = leb r.low b && leb b r.high
 
 holds_in : (r : ByteRange) (b : ℕ) → holds r b ≡ true → In r b
-unfolding holds
 holds_in r b e = let p = and_parts _ _ e in (leb-true _ _ p.0, leb-true _ _ p.1)
 
 in_holds : (r : ByteRange) (b : ℕ) → In r b → holds r b ≡ true
-unfolding holds
 in_holds r b i = and_from _ _ (le-leb _ _ i.0) (le-leb _ _ i.1)
 
 -- where the test of the first byte is known
 inside_in : (r : ByteRange) (rs : List ByteRange) (b : ℕ) (bs : List ℕ) → holds r b ≡ true → inside (r ∷ rs) (b ∷ bs) ≡ 1 + inside rs bs
-unfolding holds
 inside_in r rs b bs e = cond-true _ _ _ e
 
 inside_out : (r : ByteRange) (rs : List ByteRange) (b : ℕ) (bs : List ℕ) → holds r b ≡ false → inside (r ∷ rs) (b ∷ bs) ≡ 0
-unfolding holds
 inside_out r rs b bs e = cond-false _ _ _ e
 
 -- no list within its ranges begins like `bytes` for longer than these stay inside
@@ -54,18 +51,15 @@ inside_most (r ∷ rs) (x ∷ g) (b ∷ bs) w =
     (cases_Bool (eqb x b))
 
 -- the lowest bytes of all ranges lie within them
-lows : List ByteRange → List ℕ
-lows [] = []
-lows (r ∷ rs) = r.low ∷ lows rs
+abbrev lows : List ByteRange → List ℕ
+lows rs = map (λ r. r.low) rs
 
 lows_within : (rs : List ByteRange) → AllByRecursion Sound rs → Within rs (lows rs)
-unfolding lows
 lows_within [] s = tt
 lows_within (r ∷ rs) s = ((omega arith, s.0.0), lows_within rs s.1)
 
 -- some list within its ranges begins like `bytes` for as long as these stay inside
 pub inside_shared : (rs : List ByteRange) → AllByRecursion Sound rs → (bs : List ℕ) → (g : List ℕ) × Within rs g × (common g bs ≡ inside rs bs)
-unfolding lows
 inside_shared [] s bs = ([], tt, refl)
 inside_shared (r ∷ rs) s [] = (r.low ∷ lows rs, ((omega arith, s.0.0), lows_within rs s.1), refl)
 inside_shared (r ∷ rs) s (b ∷ bs) =
@@ -82,8 +76,8 @@ pub inside_longest : (rs : List ByteRange) → AllByRecursion Sound rs → (bs :
 inside_longest rs s bs = record { shared = inside_shared rs s bs; most = λ g w. inside_most rs g bs w }
 
 -- what is cut short where the values of V are just the lists within the ranges
-pub cut_refused : {V : Type 0} {Is : V → List ℕ → Type 0} (rs : List ByteRange) → AllByRecursion Sound rs → ((g : List ℕ) → Within rs g → SomeIs Is g) → ((g : List ℕ) → SomeIs Is g → Within rs g) → (bs : List ℕ) (k : ℕ) → Cut rs bs (Err k) → Reads Is (length rs) bs (Err k)
-cut_refused {V} {Is} rs s to from bs k c =
+pub cut_refused : {V : Type 0} {Is : V → List ℕ → Type 0} (rs : List ByteRange) → AllByRecursion Sound rs → ((g : List ℕ) → Within rs g → SomeIs Is g) → ((g : List ℕ) → SomeIs Is g → Within rs g) → (bs : List ℕ) (err : Unlawful) → Cut rs bs (Err err) → Reads Is (length rs) bs (Err err)
+cut_refused {V} {Is} rs s to from bs err c =
     (c.1, subst (Longest (SomeIs Is) bs) (sym c.0) (longest_same to from (inside_longest rs s bs)))
 
 -- bytes that are all inside
@@ -98,49 +92,14 @@ inside_all (r ∷ rs) (b ∷ bs) h =
     (λ e. let i : inside (r ∷ rs) (b ∷ bs) ≡ 0 = inside_out r rs b bs e in absurd (omega arith))
     (cases_Bool (holds r b))
 
-pub inside_fits : (rs : List ByteRange) (bs : List ℕ) → inside rs bs ≤ length bs
-inside_fits [] bs = omega arith
-inside_fits (r ∷ rs) [] = omega arith
-inside_fits (r ∷ rs) (b ∷ bs) =
-    ⊎_elim
-    (λ e. let i : inside (r ∷ rs) (b ∷ bs) ≡ 1 + inside rs bs = inside_in r rs b bs e in omega (arith, inside_fits rs bs))
-    (λ e. let i : inside (r ∷ rs) (b ∷ bs) ≡ 0 = inside_out r rs b bs e in omega arith)
-    (cases_Bool (holds r b))
+pub inside_fits : (rs : List ByteRange) (bs : List ℕ) → (inside rs bs ≤ length rs) × (inside rs bs ≤ length bs)
+inside_fits rs bs = common_prefix_len-le holds rs bs
 
-pub inside_few : (rs : List ByteRange) (bs : List ℕ) → inside rs bs ≤ length rs
-inside_few [] bs = omega arith
-inside_few (r ∷ rs) [] = omega arith
-inside_few (r ∷ rs) (b ∷ bs) =
-    ⊎_elim
-    (λ e. let i : inside (r ∷ rs) (b ∷ bs) ≡ 1 + inside rs bs = inside_in r rs b bs e in omega (arith, inside_few rs bs))
-    (λ e. let i : inside (r ∷ rs) (b ∷ bs) ≡ 0 = inside_out r rs b bs e in omega arith)
-    (cases_Bool (holds r b))
-
-inside_nothing : (rs : List ByteRange) → inside rs [] ≡ 0
-inside_nothing [] = refl
-inside_nothing (r ∷ rs) = refl
-
--- the turns of a loop that counts: n is what it is to answer
-module _ (rs : List ByteRange) (bs : List ℕ) (i n : ℕ) (inv : i + inside (drop i rs) (drop i bs) ≡ n) where
-  inside_from : (d : ByteRange) → i < length rs → i < length bs → inside (drop i rs) (drop i bs) ≡ inside (get_or rs i d ∷ drop (i + 1) rs) (get_or bs i 0 ∷ drop (i + 1) bs)
-  inside_from d r b = ap (λ x. inside x (drop i bs)) (drop_more rs i d r) ∙ ap (inside (get_or rs i d ∷ drop (i + 1) rs)) (drop_more bs i 0 b)
-
-  pub count_on : (d : ByteRange) → i < length rs → i < length bs → (leb (get_or rs i d).low (get_or bs i 0) && leb (get_or bs i 0) (get_or rs i d).high) ≡ true → i + 1 + inside (drop (i + 1) rs) (drop (i + 1) bs) ≡ n
-  unfolding holds
-  count_on d r b e =
-      let s : inside (drop i rs) (drop i bs) ≡ 1 + inside (drop (i + 1) rs) (drop (i + 1) bs) = inside_from d r b ∙ inside_in (get_or rs i d) (drop (i + 1) rs) (get_or bs i 0) (drop (i + 1) bs) e in omega arith
-
-  pub count_outside : (d : ByteRange) → i < length rs → i < length bs → (leb (get_or rs i d).low (get_or bs i 0) && leb (get_or bs i 0) (get_or rs i d).high) ≡ false → i ≡ n
-  unfolding holds
-  count_outside d r b e =
-      let s : inside (drop i rs) (drop i bs) ≡ 0 = inside_from d r b ∙ inside_out (get_or rs i d) (drop (i + 1) rs) (get_or bs i 0) (drop (i + 1) bs) e in omega arith
-
-  pub count_cut : length bs ≤ i → i ≡ n
-  count_cut b =
-      let s : inside (drop i rs) (drop i bs) ≡ 0 = ap (inside (drop i rs)) (drop_all i bs b) ∙ inside_nothing (drop i rs) in omega arith
-
-  pub count_done : length rs ≤ i → i ≡ n
-  count_done r = let s : inside (drop i rs) (drop i bs) ≡ 0 = ap (λ x. inside x (drop i bs)) (drop_all i rs r) in omega arith
+-- a walk along both lists
+pub prefix_len-zip : (rs : List ByteRange) (bs : List ℕ) → prefix_len (λ p. holds p.0 p.1) (zip rs bs) ≡ inside rs bs
+prefix_len-zip [] bs = refl
+prefix_len-zip (r ∷ rs) [] = refl
+prefix_len-zip (r ∷ rs) (b ∷ bs) = ap (λ n. cond (holds r b) (1 + n) 0) (prefix_len-zip rs bs)
 
 pub within_bytes : (rs : List ByteRange) → AllByRecursion Sound rs → (g : List ℕ) → Within rs g → AllByRecursion Byte g
 within_bytes [] s [] w = tt

@@ -1,8 +1,10 @@
 mod Alike
 mod Choosing
-pub mod Counting
+mod Counting
 mod Headers
 mod Insides
+mod Known
+mod Mapped
 pub mod Lengths
 mod Numbered
 mod Posts

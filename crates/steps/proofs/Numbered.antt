@@ -1,6 +1,8 @@
 -- Records with a bare step, and those with a number, are just the lists of bytes within their ranges.
 use Rattle.std.proofs.Common.{◌≡◌, ℕ, ◌+◌, ◌*◌, ◌<◌, List, get_or, Err, sym, refl, subst, rules}
 use Rattle.std.specs.List.{AllByRecursion}
+use Rattle.steps.specs.declared.fault.Unlawful.{Unlawful}
+use Rattle.steps.specs.declared.ranges.ByteRange.{ByteRange}
 use Rattle.steps.specs.Layout.{Byte, bare_bytes, numbered_bytes}
 use Rattle.steps.specs.Ranges.{Cut, Within}
 use Rattle.steps.specs.Tables.{ranges_of_bare, ranges_of_numbered}
@@ -19,8 +21,8 @@ module _ (step : ℕ) (small : step < 256) where
       let w : Within (ranges_of_bare step) (bare_bytes step) = search rules in
       subst (Within (ranges_of_bare step)) (sym s.1.0) w
 
-  pub bare_refused : (bytes : List ℕ) (k : ℕ) → Cut (ranges_of_bare step) bytes (Err k) → Reads (IsBare step) 10 bytes (Err k)
-  bare_refused bytes k c = cut_refused (ranges_of_bare step) bare_sound bare_within within_bare bytes k c
+  pub bare_refused : (rs : List ByteRange) (table : rs ≡ ranges_of_bare step) (bytes : List ℕ) (err : Unlawful) → Cut rs bytes (Err err) → Reads (IsBare step) 10 bytes (Err err)
+  bare_refused rs table bytes err c = cut_refused (ranges_of_bare step) bare_sound bare_within within_bare bytes err (subst (λ x. Cut x bytes (Err err)) table c)
 
   numbered_sound : AllByRecursion Sound (ranges_of_numbered step)
   numbered_sound = search rules
@@ -39,5 +41,5 @@ module _ (step : ℕ) (small : step < 256) where
       let w : Within (ranges_of_numbered step) (numbered_bytes step s.0) = search rules in
       subst (Within (ranges_of_numbered step)) (sym s.1.0) w
 
-  pub numbered_refused : (bytes : List ℕ) (k : ℕ) → Cut (ranges_of_numbered step) bytes (Err k) → Reads (IsNumbered step) 10 bytes (Err k)
-  numbered_refused bytes k c = cut_refused (ranges_of_numbered step) numbered_sound numbered_within within_numbered bytes k c
+  pub numbered_refused : (rs : List ByteRange) (table : rs ≡ ranges_of_numbered step) (bytes : List ℕ) (err : Unlawful) → Cut rs bytes (Err err) → Reads (IsNumbered step) 10 bytes (Err err)
+  numbered_refused rs table bytes err c = cut_refused (ranges_of_numbered step) numbered_sound numbered_within within_numbered bytes err (subst (λ x. Cut x bytes (Err err)) table c)

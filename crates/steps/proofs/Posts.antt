@@ -1,5 +1,5 @@
 -- Posts of each type are just the lists of bytes within the ranges of such a post.
-use Rattle.std.proofs.Common.{◌≡◌, ℕ, ◌+◌, ◌*◌, ◌≤◌, List, ◌∷◌, get_or, Err, sym, refl, subst, ⊎_elim, arith, rules}
+use Rattle.std.proofs.Common.{◌≡◌, ℕ, ◌+◌, ◌*◌, ◌≤◌, List, ◌∷◌, get_or, Err, sym, refl, ◌∙◌, subst, ⊎_elim, arith, rules}
 use Rattle.std.proofs.lemmas.Bool.{cases_eq}
 use Rattle.std.specs.List.{AllByRecursion}
 use Rattle.messages.specs.declared.pen.PenMessage.{PenMessage}
@@ -9,6 +9,9 @@ use Rattle.messages.specs.declared.note.Note.{Note}
 use Rattle.messages.specs.declared.note.NoteKind.{NoteKind}
 use Rattle.messages.specs.declared.note.NoteKind.TheVariants.{PageKey, RaisedHand, Tilt}
 use Rattle.messages.specs.Notes.{kind_number}
+use Rattle.messages.specs.Pens.{told_by}
+use Rattle.steps.specs.declared.fault.Unlawful.{Unlawful}
+use Rattle.steps.specs.declared.ranges.ByteRange.{ByteRange}
 use Rattle.steps.specs.Formats.{note_format, note_laid, pen_format, pen_laid, stage_byte}
 use Rattle.steps.specs.Layout.{Byte}
 use Rattle.steps.specs.Ranges.{Cut, Within}
@@ -22,7 +25,16 @@ stage_of n l h =
     (λ e. ⊎_elim (λ f. (Sample, sym f)) (λ f. (Up, omega arith)) (cases_eq n 2))
     (cases_eq n 1)
 
-kind_of : (n : ℕ) → 11 ≤ n → n ≤ 13 → (k : NoteKind) × (kind_number k ≡ n)
+-- a stage's byte is the kind of its messages
+pub told_stage : (s : Stage) → (told_by s).kind ≡ stage_byte s
+told_stage Down = refl
+told_stage Sample = refl
+told_stage Up = refl
+
+pub told_of : (n : ℕ) → 1 ≤ n → n ≤ 3 → (s : Stage) × ((told_by s).kind ≡ n)
+told_of n l h = let s = stage_of n l h in (s.0, told_stage s.0 ∙ s.1)
+
+pub kind_of : (n : ℕ) → 11 ≤ n → n ≤ 13 → (k : NoteKind) × (kind_number k ≡ n)
 kind_of n l h =
     ⊎_elim (λ e. (PageKey, sym e))
     (λ e. ⊎_elim (λ f. (RaisedHand, sym f)) (λ f. (Tilt, omega arith)) (cases_eq n 12))
@@ -51,8 +63,8 @@ within_pen g s =
     let a : AllByRecursion Byte (1 ∷ pen_laid s.0) = subst (AllByRecursion Byte) s.1.0 s.1.1 in
     let w : Within pen_ranges (1 ∷ pen_laid s.0) = search rules in subst (Within pen_ranges) (sym s.1.0) w
 
-pub pen_refused : (bytes : List ℕ) (k : ℕ) → Cut pen_ranges bytes (Err k) → Reads (IsPost pen_format) 10 bytes (Err k)
-pen_refused bytes k c = cut_refused pen_ranges (search rules) pen_within within_pen bytes k c
+pub pen_refused : (rs : List ByteRange) (table : rs ≡ pen_ranges) (bytes : List ℕ) (err : Unlawful) → Cut rs bytes (Err err) → Reads (IsPost pen_format) 10 bytes (Err err)
+pen_refused rs table bytes err c = cut_refused pen_ranges (search rules) pen_within within_pen bytes err (subst (λ x. Cut x bytes (Err err)) table c)
 
 note_within : (g : List ℕ) → Within note_ranges g → SomeIs (IsPost note_format) g
 note_within g w =
@@ -71,5 +83,5 @@ within_note g s =
     let a : AllByRecursion Byte (1 ∷ note_laid s.0) = subst (AllByRecursion Byte) s.1.0 s.1.1 in
     let w : Within note_ranges (1 ∷ note_laid s.0) = search rules in subst (Within note_ranges) (sym s.1.0) w
 
-pub note_refused : (bytes : List ℕ) (k : ℕ) → Cut note_ranges bytes (Err k) → Reads (IsPost note_format) 10 bytes (Err k)
-note_refused bytes k c = cut_refused note_ranges (search rules) note_within within_note bytes k c
+pub note_refused : (rs : List ByteRange) (table : rs ≡ note_ranges) (bytes : List ℕ) (err : Unlawful) → Cut rs bytes (Err err) → Reads (IsPost note_format) 10 bytes (Err err)
+note_refused rs table bytes err c = cut_refused note_ranges (search rules) note_within within_note bytes err (subst (λ x. Cut x bytes (Err err)) table c)

@@ -4,6 +4,7 @@ use Rattle.std.proofs.ByRecursion.{All-append}
 use Rattle.std.proofs.lemmas.List.{flat_map_more, take_all, take-append-drop, length-take-le}
 use Rattle.std.specs.List.{AllByRecursion}
 use Rattle.messages.specs.declared.refusal.Refusal.TheVariants.{BadRecord}
+use Rattle.steps.specs.declared.fault.Unlawful.{Unlawful}
 use Rattle.steps.specs.declared.records.Records.{Records}
 use Rattle.steps.specs.declared.step.Step.{Step}
 use Rattle.steps.specs.Lawful.{Faulty, Lawful, LawfulOf, Says, longest}
@@ -12,12 +13,6 @@ use Rattle.steps.specs.Progress.{HasRead}
 use Rattle.steps.specs.Reading.{IsStep, Reads}
 use Rattle.steps.proofs.Lengths.{file_length, step_length}
 use Rattle.steps.proofs.Stopping.{record_faulty}
-
--- a record lies within its file
-pub within : {M : Type 0} (f : Format M) (s : Step M) (file : List ℕ) (p : ℕ) → IsStep f s (take 10 (drop p file)) → p + 10 ≤ length file
-within f s file p is =
-    let n = ap length is.0 ∙ step_length f s in
-    let l = length-take 10 (drop p file) in let d = length-drop p file in omega arith
 
 module _ {M : Type 0} (f : Format M) (r : Records M) (ss : List (Step M)) (read : HasRead f r ss) where
   position_is : r.position ≡ 8 + 10 * length ss
@@ -55,14 +50,14 @@ module _ {M : Type 0} (f : Format M) (r : Records M) (ss : List (Step M)) (read 
       let same : moved ≡ after = (λ i. record { file = sym sf i; header = sym sh i; position = sym sp i; message = after.message }) in
       subst (λ x. HasRead f x (ss ++ s ∷ [])) same goal
 
-  pub stopped : ((g : List ℕ) → LawfulOf f g → Lawful g) → ((g : List ℕ) → Lawful g → LawfulOf f g ⊎ (get_or g 5 0 ≡ type_number f.message_type → ⊥)) → r.position < length r.file.now → (k : ℕ) → Reads (IsStep f) 10 (drop r.position r.file.now) (Err k) → Faulty r.file.now (record { refusal = BadRecord; offset = r.position + k })
-  stopped lawful only less k stops =
+  pub stopped : ((g : List ℕ) → LawfulOf f g → Lawful g) → ((g : List ℕ) → Lawful g → LawfulOf f g ⊎ (get_or g 5 0 ≡ type_number f.message_type → ⊥)) → r.position < length r.file.now → (err : Unlawful) → Reads (IsStep f) 10 (drop r.position r.file.now) (Err err) → Faulty r.file.now (record { refusal = BadRecord; offset = r.position + err.lawful_up_to })
+  stopped lawful only less err stops =
       let rest = drop r.position r.file.now in
       let whole : file_bytes f r.header ss ++ rest ≡ r.file.now =
       ap (λ x. x ++ rest) (sym read.written) ∙ take-append-drop r.position r.file.now in
       let n = length-drop r.position r.file.now in
       let some : 0 < length rest = omega arith in
       let short : length (file_bytes f r.header ss ++ rest) ≤ longest = (let e = ap length whole in omega (arith, read.short)) in
-      let y = record_faulty f rest k stops lawful only r.header ss read.typed read.trays read.bytes some short in
-      let z = subst (λ p. Faulty (file_bytes f r.header ss ++ rest) (record { refusal = BadRecord; offset = p + k })) (sym position_is) y in
-      subst (λ x. Faulty x (record { refusal = BadRecord; offset = r.position + k })) whole z
+      let y = record_faulty f rest err stops lawful only r.header ss read.typed read.trays read.bytes some short in
+      let z = subst (λ p. Faulty (file_bytes f r.header ss ++ rest) (record { refusal = BadRecord; offset = p + err.lawful_up_to })) (sym position_is) y in
+      subst (λ x. Faulty x (record { refusal = BadRecord; offset = r.position + err.lawful_up_to })) whole z

@@ -5,6 +5,7 @@ use Rattle.std.proofs.lemmas.List.{flat_map_more, length_push}
 use Rattle.std.proofs.lemmas.Bool.{cases_lt}
 use Rattle.std.specs.List.{flat_map, AllByRecursion}
 use Rattle.messages.specs.declared.refusal.Refusal.TheVariants.{BadHeader, BadRecord}
+use Rattle.steps.specs.declared.fault.Unlawful.{Unlawful}
 use Rattle.steps.specs.declared.header.Header.{Header}
 use Rattle.steps.specs.declared.header.MessageType.{MessageType}
 use Rattle.steps.specs.declared.header.MessageType.TheVariants as type
@@ -29,18 +30,18 @@ header_only g h is = by_type h.message_type refl where
   by_type type.Pen e = inl (alone pen_format e)
   by_type type.Note e = inr (alone note_format e)
 
-module _ (file : List ℕ) (k : ℕ) (short : length file ≤ longest) (r : Reads IsHeader 8 file (Err k)) where
-  header_most_of : {M : Type 0} (f : Format M) (g : List ℕ) → LawfulOf f g → common g file ≤ k
+module _ (file : List ℕ) (err : Unlawful) (short : length file ≤ longest) (r : Reads IsHeader 8 file (Err err)) where
+  header_most_of : {M : Type 0} (f : Format M) (g : List ℕ) → LawfulOf f g → common g file ≤ err.lawful_up_to
   header_most_of f g l =
       let a = r.1.most (header_bytes l.0) (l.0, (refl, l.2.trays)) in
       let less : common (header_bytes l.0) file < length (header_bytes l.0) = omega (arith, r.0) in
       let b = common_front (header_bytes l.0) (flat_map (step_bytes f) l.1) file less in
       let e = ap (λ x. common x file) l.2.written in omega arith
 
-  header_most : (g : List ℕ) → Lawful g → common g file ≤ k
+  header_most : (g : List ℕ) → Lawful g → common g file ≤ err.lawful_up_to
   header_most g l = ⊎_elim (header_most_of pen_format g) (header_most_of note_format g) l
 
-  pub header_faulty : Faulty file (record { refusal = BadHeader; offset = k })
+  pub header_faulty : Faulty file (record { refusal = BadHeader; offset = err.lawful_up_to })
   header_faulty =
       record {
         unlawful = λ l. let a = header_most file l in let b = common_whole file in let c = lawful_length file l in omega (arith, r.0, c.1);
@@ -65,8 +66,8 @@ too_long_faulty file h =
 
 -- ---- in a record
 
-module _ {M : Type 0} (f : Format M) (rest : List ℕ) (k : ℕ) (r : Reads (IsStep f) 10 rest (Err k)) where
-  blocks_most : (ss gs : List (Step M)) → AllByRecursion Byte (flat_map (step_bytes f) gs) → common (flat_map (step_bytes f) gs) (flat_map (step_bytes f) ss ++ rest) ≤ 10 * length ss + k
+module _ {M : Type 0} (f : Format M) (rest : List ℕ) (err : Unlawful) (r : Reads (IsStep f) 10 rest (Err err)) where
+  blocks_most : (ss gs : List (Step M)) → AllByRecursion Byte (flat_map (step_bytes f) gs) → common (flat_map (step_bytes f) gs) (flat_map (step_bytes f) ss ++ rest) ≤ 10 * length ss + err.lawful_up_to
   blocks_most ss [] a = omega arith
   blocks_most [] (x ∷ gs) a =
       let b = r.1.most (step_bytes f x) (x, (refl, all_front Byte (step_bytes f x) (flat_map (step_bytes f) gs) a)) in
@@ -88,7 +89,7 @@ module _ {M : Type 0} (f : Format M) (rest : List ℕ) (k : ℕ) (r : Reads (IsS
         let a = length-append (file_bytes f h ss) rest in let b = file_length f h ss in omega arith
 
     -- the steps so far, and one that goes on like the rest as long as any does
-    longer : (g : List ℕ) × Lawful g × (common g (file_bytes f h ss ++ rest) ≡ 8 + 10 * length ss + k)
+    longer : (g : List ℕ) × Lawful g × (common g (file_bytes f h ss ++ rest) ≡ 8 + 10 * length ss + err.lawful_up_to)
     longer =
         let s = r.1.shared.1.0 in
         let is = r.1.shared.1.1 in
@@ -97,28 +98,28 @@ module _ {M : Type 0} (f : Format M) (rest : List ℕ) (k : ℕ) (r : Reads (IsS
         let n = files_length in
         let room : length (ss ++ s ∷ []) ≤ 3000 = (let p = length_push ss s in omega arith) in
         let all : AllByRecursion Byte g = All-append Byte (file_bytes f h ss) (step_bytes f s) bytes (subst (AllByRecursion Byte) is.0 is.1) in
-        let c : common (step_bytes f s) rest ≡ k = sym (ap (λ x. common x rest) is.0) ∙ r.1.shared.2 in
+        let c : common (step_bytes f s) rest ≡ err.lawful_up_to = sym (ap (λ x. common x rest) is.0) ∙ r.1.shared.2 in
         let e = common_after (file_bytes f h ss) (step_bytes f s) rest in
         let m = file_length f h ss in
         (g, lawful g (h, ss ++ s ∷ [], record { written = same; typed = typed; trays = trays; few = room; bytes = all }), omega arith)
 
-    most : (g : List ℕ) → Lawful g → common g (file_bytes f h ss ++ rest) ≤ 8 + 10 * length ss + k
+    most : (g : List ℕ) → Lawful g → common g (file_bytes f h ss ++ rest) ≤ 8 + 10 * length ss + err.lawful_up_to
     most g l = ⊎_elim same_type other_type (only g l) where
-      same_type : LawfulOf f g → common g (file_bytes f h ss ++ rest) ≤ 8 + 10 * length ss + k
+      same_type : LawfulOf f g → common g (file_bytes f h ss ++ rest) ≤ 8 + 10 * length ss + err.lawful_up_to
       same_type o =
           let a = subst (AllByRecursion Byte) o.2.written o.2.bytes in
           let b = blocks_most ss o.1 (all_back Byte (header_bytes o.0) (flat_map (step_bytes f) o.1) a) in
           let c = common_blocks (header_bytes o.0) (header_bytes h) (flat_map (step_bytes f) o.1) (flat_map (step_bytes f) ss ++ rest) refl in
           let e = ap (λ x. common x (file_bytes f h ss ++ rest)) o.2.written in omega arith
 
-      other_type : (get_or g 5 0 ≡ type_number f.message_type → ⊥) → common g (file_bytes f h ss ++ rest) ≤ 8 + 10 * length ss + k
+      other_type : (get_or g 5 0 ≡ type_number f.message_type → ⊥) → common g (file_bytes f h ss ++ rest) ≤ 8 + 10 * length ss + err.lawful_up_to
       other_type apart =
           ⊎_elim
           (λ i. absurd (apart (common_reads 5 g (file_bytes f h ss ++ rest) i ∙ ap type_number typed)))
           (λ i. omega arith)
           (cases_lt 5 (common g (file_bytes f h ss ++ rest)))
 
-    pub record_faulty : Faulty (file_bytes f h ss ++ rest) (record { refusal = BadRecord; offset = 8 + 10 * length ss + k })
+    pub record_faulty : Faulty (file_bytes f h ss ++ rest) (record { refusal = BadRecord; offset = 8 + 10 * length ss + err.lawful_up_to })
     record_faulty =
         record {
           unlawful = λ l.

@@ -1,11 +1,10 @@
 -- How two lists of bytes begin alike.
-use Rattle.std.specs.Prelude.{◌≡◌, ℕ, ◌+◌, ◌≤◌, cond, List, [], ◌∷◌, ◌++◌, ◌==◌}
+use Rattle.std.specs.Prelude.{◌≡◌, ℕ, ◌≤◌, List, ◌++◌, ◌==◌}
+use Rattle.std.specs.List.{common_prefix_len}
 
 -- the length of the longest beginning that two lists have in common
 abbrev pub common : List ℕ → List ℕ → ℕ
-common [] ys = 0
-common (x ∷ xs) [] = 0
-common (x ∷ xs) (y ∷ ys) = cond (x == y) (1 + common xs ys) 0
+common xs ys = common_prefix_len (λ x y. x == y) xs ys
 
 -- `bytes` begins with `part`
 abbrev pub Begins : List ℕ → List ℕ → Type 0

@@ -1,8 +1,9 @@
 -- How far a reader has come in its file, and what reading on answers and leaves.
-use Rattle.std.specs.Prelude.{◌≡◌, ℕ, ◌+◌, ◌≤◌, List, [], ◌∷◌, ◌++◌, length, take, drop, Some, None, Ok, Err, Option, Result}
+use Rattle.std.specs.Prelude.{◌≡◌, ◌+◌, ◌≤◌, List, [], ◌∷◌, ◌++◌, length, take, drop, Some, None, Ok, Err, Option, Result}
 use Rattle.std.specs.List.{AllByRecursion}
 use Rattle.messages.specs.declared.refusal.Refusal.TheVariants.{BadRecord}
 use Rattle.steps.specs.declared.fault.Fault.{Fault}
+use Rattle.steps.specs.declared.fault.Unlawful.{Unlawful}
 use Rattle.steps.specs.declared.records.Record.{Record}
 use Rattle.steps.specs.declared.records.Records.{Records}
 use Rattle.steps.specs.declared.step.Step.{Step}
@@ -33,7 +34,7 @@ pub record Gives {M : Type 0} (f : Format M) (before after : Records M) (x : Rec
 -- no record begins like the bytes at the position for longer than up to the fault
 pub record Stops {M : Type 0} (f : Format M) (before after : Records M) (fault : Fault) : Type 0 where
   pub number : fault.refusal ≡ BadRecord
-  pub offset : (k : ℕ) × (fault.offset ≡ before.position + k) × Reads (IsStep f) 10 (drop before.position before.file.now) (Err k)
+  pub offset : (e : Unlawful) × (fault.offset ≡ before.position + e.lawful_up_to) × Reads (IsStep f) 10 (drop before.position before.file.now) (Err e)
   pub same : after ≡ before
 
 -- what reading on answers and leaves

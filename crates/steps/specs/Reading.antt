@@ -1,6 +1,7 @@
 -- What the reader's calls answer.
 use Rattle.std.specs.Prelude.{◌≡◌, ℕ, ◌<◌, List, ◌∷◌, take, Ok, Err, Result}
 use Rattle.std.specs.List.{AllByRecursion}
+use Rattle.steps.specs.declared.fault.Unlawful.{Unlawful}
 use Rattle.steps.specs.declared.header.Header.{Header}
 use Rattle.steps.specs.declared.step.Step.{Step}
 use Rattle.steps.specs.Beginnings.{Longest}
@@ -28,6 +29,6 @@ SomeIs {V} Is bytes = (v : V) × Is v bytes
 
 -- what reading a value of `size` bytes from the start of `bytes` answers:
 -- the value, or the length of the longest beginning that some value has too
-abbrev pub Reads : {V : Type 0} → (V → List ℕ → Type 0) → ℕ → List ℕ → Result V ℕ → Type 0
+abbrev pub Reads : {V : Type 0} → (V → List ℕ → Type 0) → ℕ → List ℕ → Result V Unlawful → Type 0
 Reads Is size bytes (Ok v) = Is v (take size bytes)
-Reads Is size bytes (Err k) = (k < size) × Longest (SomeIs Is) bytes k
+Reads Is size bytes (Err e) = (e.lawful_up_to < size) × Longest (SomeIs Is) bytes e.lawful_up_to

@@ -16,9 +16,6 @@ abbrev pub ranges_of_header : List ByteRange
 ranges_of_header =
     only 0x45 ∷ only 0x56 ∷ only 0x51 ∷ only 0 ∷ only 1 ∷ from_to 1 2 ∷ from_to 2 128 ∷ from_to 1 2 ∷ []
 
-abbrev pub ranges_of_first : List ByteRange
-ranges_of_first = from_to 1 5 ∷ []
-
 abbrev pub pen_ranges : List ByteRange
 pen_ranges = only 1 ∷ any ∷ from_to 1 3 ∷ only 0 ∷ replicate 6 any
 

@@ -1,10 +1,12 @@
 // The first eight bytes of a steps file.
-ghost use Rattle.std.specs.Prelude.{◌≡◌, ◌≤◌};
-ghost use Rattle.steps.specs.Layout.{bank_number, type_number};
+ghost use Rattle.std.specs.Prelude.{◌≡◌};
+ghost use Rattle.steps.specs.Layout.{IsBankOf, IsTypeOf};
 ghost use Rattle.steps.specs.Reading.{IsHeader, Reads};
 ghost use Rattle.steps.specs.Tables.{ranges_of_header};
 
+use crate::fault::Unlawful;
 use crate::ranges::{ByteRange, cut};
+use messages::unknown::UnknownNumber;
 
 // The type of all messages that a file posts.
 #[derive(Clone, Copy, Debug, PartialEq, Eq)]
@@ -13,11 +15,41 @@ pub enum MessageType {
     Note = 2,
 }
 
+// The message type of a number.
+impl TryFrom<u8> for MessageType {
+    type Error = UnknownNumber;
+
+    ghost try_from_gives = { IsTypeOf };
+
+    fn try_from(number: u8) -> Result<MessageType, UnknownNumber> {
+        match number {
+            1 => Ok(MessageType::Pen),
+            2 => Ok(MessageType::Note),
+            _ => Err(UnknownNumber(number)),
+        }
+    }
+}
+
 // The bank that the lesson is to be run over.
 #[derive(Clone, Copy, Debug, PartialEq, Eq)]
 pub enum BankKind {
     Row = 1,
     Chain = 2,
+}
+
+// The bank of a number.
+impl TryFrom<u8> for BankKind {
+    type Error = UnknownNumber;
+
+    ghost try_from_gives = { IsBankOf };
+
+    fn try_from(number: u8) -> Result<BankKind, UnknownNumber> {
+        match number {
+            1 => Ok(BankKind::Row),
+            2 => Ok(BankKind::Chain),
+            _ => Err(UnknownNumber(number)),
+        }
+    }
 }
 
 // What a file asks for: the type of its messages, and a bank with a number of trays, 2 to 128.
@@ -30,15 +62,16 @@ pub struct Header {
 
 impl Header {
     // The header that a file begins with; otherwise how many of its first bytes some header has too.
-    pub fn read(file: &[u8]) -> Result<Header, usize>
+    pub fn read(file: &[u8]) -> Result<Header, Unlawful>
         ensures { Reads IsHeader 8 file.now result }
     {
         let ranges = header_ranges();
         let bytes = cut(file, &ranges)?;
+        // Each byte lies in its range, so its number has a value.
         Ok(Header {
-            message_type: message_type_of(bytes[5]),
+            message_type: MessageType::try_from(bytes[5]).unwrap(),
             trays: bytes[6],
-            bank: bank_of(bytes[7]),
+            bank: BankKind::try_from(bytes[7]).unwrap(),
         })
     }
 }
@@ -57,26 +90,4 @@ fn header_ranges() -> [ByteRange; 8]
         ByteRange { low: 2, high: 128 },
         ByteRange { low: 1, high: 2 },
     ]
-}
-
-fn message_type_of(byte: u8) -> MessageType
-    requires { (1 ≤ byte) × (byte ≤ 2) }
-    ensures { type_number result ≡ byte }
-{
-    match byte {
-        1 => MessageType::Pen,
-        2 => MessageType::Note,
-        _ => unreachable(),
-    }
-}
-
-fn bank_of(byte: u8) -> BankKind
-    requires { (1 ≤ byte) × (byte ≤ 2) }
-    ensures { bank_number result ≡ byte }
-{
-    match byte {
-        1 => BankKind::Row,
-        2 => BankKind::Chain,
-        _ => unreachable(),
-    }
 }

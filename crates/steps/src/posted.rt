@@ -4,6 +4,7 @@ ghost use Rattle.steps.specs.Lawful.{Lawful, LawfulOf};
 ghost use Rattle.steps.specs.Layout.{Format, type_number};
 ghost use Rattle.steps.specs.Reading.{IsPost, Reads};
 
+use crate::fault::Unlawful;
 use messages::message::Timed;
 
 pub mod note;
@@ -15,7 +16,7 @@ pub trait Posted: Timed {
     ghost format: { Format Self };
 
     // The message that a record posts; otherwise how many of its first bytes some post has too.
-    fn read_post(bytes: &[u8]) -> Result<Self, usize>
+    fn read_post(bytes: &[u8]) -> Result<Self, Unlawful>
         ensures { Reads (IsPost format) 10 bytes.now result };
 
     // a file of such posts is lawful, and a lawful file is one of such posts or names another type

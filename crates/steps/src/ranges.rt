@@ -2,7 +2,9 @@
 ghost use Rattle.std.specs.Prelude.{◌≡◌, ◌&&◌, nat_le};
 ghost use Rattle.steps.specs.Ranges.{Cut, inside};
 
-// The bytes from `low` to `high`, both included.
+use crate::fault::Unlawful;
+
+// The bytes from `low` to `high`, both included. Std's `RangeInclusive` is not `Copy`, so a table could not repeat it.
 #[derive(Clone, Copy)]
 pub struct ByteRange {
     pub low: u8,
@@ -26,7 +28,7 @@ impl ByteRange {
     pub fn holds(self, byte: u8) -> bool
         ensures { result ≡ (nat_le self.low byte && nat_le byte self.high) }
     {
-        self.low <= byte && byte <= self.high
+        (self.low..=self.high).contains(&byte)
     }
 }
 
@@ -34,21 +36,22 @@ impl ByteRange {
 pub fn count_inside(bytes: &[u8], ranges: &[ByteRange]) -> usize
     ensures { result ≡ inside ranges.now bytes.now }
 {
-    for (i, range) in ranges.iter().enumerate() {
-        if i >= bytes.len() || !range.holds(bytes[i]) {
-            return i;
-        }
-    }
-    ranges.len()
+    ranges
+        .iter()
+        .zip(bytes)
+        .take_while(|(range, byte)| range.holds(**byte))
+        .count()
 }
 
 // The first bytes, one for each range, if each lies in its range; otherwise how many do.
-pub fn cut<'a>(bytes: &'a [u8], ranges: &[ByteRange]) -> Result<&'a [u8], usize>
+pub fn cut<'a>(bytes: &'a [u8], ranges: &[ByteRange]) -> Result<&'a [u8], Unlawful>
     ensures { Cut ranges.now bytes.now result }
 {
     let inside = count_inside(bytes, ranges);
     if inside < ranges.len() {
-        return Err(inside);
+        return Err(Unlawful {
+            lawful_up_to: inside,
+        });
     }
-    Ok(&bytes[0..inside])
+    Ok(&bytes[..inside])
 }

@@ -11,7 +11,7 @@ use messages::refusal::Refusal;
 use std::marker::PhantomData;
 
 // One record: its ten bytes, which are a part of the file's own, their offset in the file, and the step that they say.
-#[derive(Clone, Copy)]
+#[derive(Clone, Copy, Debug, PartialEq, Eq)]
 pub struct Record<'a, M> {
     pub offset: usize,
     pub bytes: &'a [u8],
@@ -46,7 +46,8 @@ impl<'a, M: Posted> Records<'a, M> {
         self.header
     }
 
-    // The next record, or none at the end of the file. After a fault the reader stands where it stood.
+    // The next record, or none at the end of the file. After a fault the reader stands where it stood and gives the fault
+    // again, so this is not the `next` of an `Iterator`, over which a `for` has to end.
     pub fn next(&mut self) -> Result<Option<Record<'a, M>>, Fault>
         ensures answer { Next M.Posted.format self.old self.new result }
         ensures law { (steps : List (Step M)) → HasRead M.Posted.format self.old steps → Law M.Posted.format steps self.new result }
@@ -55,21 +56,16 @@ impl<'a, M: Posted> Records<'a, M> {
         if offset >= self.file.len() {
             return Ok(None);
         }
-        let file = self.file;
-        let rest = &file[offset..];
-        match Step::read(rest) {
-            Ok(step) => {
-                self.position = offset + 10;
-                Ok(Some(Record {
-                    offset,
-                    bytes: &rest[0..10],
-                    step,
-                }))
-            }
-            Err(inside) => Err(Fault {
-                refusal: Refusal::BadRecord,
-                offset: offset + inside,
-            }),
-        }
+        let rest = &self.file[offset..];
+        let step = Step::read(rest).map_err(|unlawful| Fault {
+            refusal: Refusal::BadRecord,
+            offset: offset + unlawful.lawful_up_to,
+        })?;
+        self.position = offset + 10;
+        Ok(Some(Record {
+            offset,
+            bytes: &rest[..10],
+            step,
+        }))
     }
 }

@@ -1,8 +1,9 @@
 // What one record of a steps file says.
 ghost use Rattle.std.specs.Prelude.{◌≡◌};
 ghost use Rattle.steps.specs.Reading.{IsBare, IsNumbered, IsStep, Reads};
-ghost use Rattle.steps.specs.Tables.{ranges_of_bare, ranges_of_first, ranges_of_numbered};
+ghost use Rattle.steps.specs.Tables.{ranges_of_bare, ranges_of_numbered};
 
+use crate::fault::Unlawful;
 use crate::posted::Posted;
 use crate::ranges::{ByteRange, cut};
 
@@ -18,12 +19,11 @@ pub enum Step<M> {
 
 impl<M: Posted> Step<M> {
     // The step that a record says; otherwise how many of its first bytes some record has too.
-    pub fn read(bytes: &[u8]) -> Result<Step<M>, usize>
+    pub fn read(bytes: &[u8]) -> Result<Step<M>, Unlawful>
         ensures { Reads (IsStep M.Posted.format) 10 bytes.now result }
     {
-        let ranges = first_ranges();
-        let first = cut(bytes, &ranges)?;
-        match first[0] {
+        let first = bytes.first().ok_or(Unlawful { lawful_up_to: 0 })?;
+        match *first {
             1 => Ok(Step::Post(M::read_post(bytes)?)),
             2 => {
                 read_bare(bytes, 2)?;
@@ -35,13 +35,13 @@ impl<M: Posted> Step<M> {
                 Ok(Step::Name)
             }
             5 => Ok(Step::Warn(read_number(bytes, 5)?)),
-            _ => unreachable(),
+            _ => Err(Unlawful { lawful_up_to: 0 }),
         }
     }
 }
 
 // Reads a record that names a step and says no more.
-fn read_bare(bytes: &[u8], step: u8) -> Result<(), usize>
+fn read_bare(bytes: &[u8], step: u8) -> Result<(), Unlawful>
     ensures { Reads (IsBare step) 10 bytes.now result }
 {
     let ranges = bare_ranges(step);
@@ -50,7 +50,7 @@ fn read_bare(bytes: &[u8], step: u8) -> Result<(), usize>
 }
 
 // Reads the number of a record that names a step and has one.
-fn read_number(bytes: &[u8], step: u8) -> Result<u32, usize>
+fn read_number(bytes: &[u8], step: u8) -> Result<u32, Unlawful>
     ensures { Reads (IsNumbered step) 10 bytes.now result }
 {
     let ranges = numbered_ranges(step);
@@ -58,46 +58,18 @@ fn read_number(bytes: &[u8], step: u8) -> Result<u32, usize>
     Ok(u32::from_be_bytes([record[4], record[5], record[6], record[7]]))
 }
 
-// The first byte of a record names its step.
-fn first_ranges() -> [ByteRange; 1]
-    ensures { result ≡ ranges_of_first }
-{
-    [ByteRange { low: 1, high: 5 }]
-}
-
 fn bare_ranges(step: u8) -> [ByteRange; 10]
     ensures { result ≡ ranges_of_bare step }
 {
-    let zero = ByteRange::only(0);
-    [
-        ByteRange::only(step),
-        zero,
-        zero,
-        zero,
-        zero,
-        zero,
-        zero,
-        zero,
-        zero,
-        zero,
-    ]
+    let mut ranges = [ByteRange::only(0); 10];
+    ranges[0] = ByteRange::only(step);
+    ranges
 }
 
 fn numbered_ranges(step: u8) -> [ByteRange; 10]
     ensures { result ≡ ranges_of_numbered step }
 {
-    let zero = ByteRange::only(0);
-    let any = ByteRange::ANY;
-    [
-        ByteRange::only(step),
-        zero,
-        zero,
-        zero,
-        any,
-        any,
-        any,
-        any,
-        zero,
-        zero,
-    ]
+    let mut ranges = bare_ranges(step);
+    ranges[4..8].fill(ByteRange::ANY);
+    ranges
 }

@@ -41,15 +41,13 @@ impl<'a> StepsFile<'a> {
                 offset: LONGEST,
             });
         }
-        match Header::read(file) {
-            Ok(header) => match header.message_type {
-                MessageType::Pen => Ok(StepsFile::Pen(Records::new(file, header))),
-                MessageType::Note => Ok(StepsFile::Note(Records::new(file, header))),
-            },
-            Err(inside) => Err(Fault {
-                refusal: Refusal::BadHeader,
-                offset: inside,
-            }),
+        let header = Header::read(file).map_err(|unlawful| Fault {
+            refusal: Refusal::BadHeader,
+            offset: unlawful.lawful_up_to,
+        })?;
+        match header.message_type {
+            MessageType::Pen => Ok(StepsFile::Pen(Records::new(file, header))),
+            MessageType::Note => Ok(StepsFile::Note(Records::new(file, header))),
         }
     }
 }

@@ -6,6 +6,7 @@ ghost use Rattle.steps.specs.Texts.{fault_text, record_text, step_text};
 use crate::fault::Fault;
 use crate::records::Record;
 use crate::step::Step;
+use std::error::Error;
 use std::fmt;
 
 // What the step says: "post" with the message, "dispatch", "turn to" with the cycle, "name", or "warn" with the services.
@@ -28,9 +29,7 @@ impl<M: fmt::Display> fmt::Display for Record<'_, M> {
     ghost output = { λ r. record_text M.Display.output r };
 
     fn fmt<W: fmt::Write>(&self, f: &mut fmt::Formatter<W>) -> fmt::Result {
-        let offset = self.offset;
-        let step = &self.step;
-        write!(f, "{offset} {step}")
+        write!(f, "{} {}", self.offset, self.step)
     }
 }
 
@@ -39,8 +38,8 @@ impl fmt::Display for Fault {
     ghost output = { λ t. Some (fault_text t) };
 
     fn fmt<W: fmt::Write>(&self, f: &mut fmt::Formatter<W>) -> fmt::Result {
-        let number = self.refusal.number();
-        let offset = self.offset;
-        write!(f, "F {number} {offset}")
+        write!(f, "F {} {}", self.refusal.number(), self.offset)
     }
 }
+
+impl Error for Fault {}

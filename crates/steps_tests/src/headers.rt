@@ -1,5 +1,5 @@
 // Headers: each byte just outside what it may be, and each value that it may have.
-use crate::outcomes::{NOTE_FILE, in_header, lawful};
+use crate::outcomes::{NOTE_FILE, in_header, lawful, with_byte};
 use steps::header::{BankKind, Header, MessageType};
 use steps::steps_file::check;
 
@@ -23,10 +23,7 @@ fn a_wrong_byte_is_the_fault(rt: HostRuntime) {
         (7, 3),
     ];
     for (place, byte) in wrong {
-        let mut file = NOTE_FILE;
-        if place < 18 {
-            file[place] = byte;
-        }
+        let file = with_byte(NOTE_FILE, place, byte);
         assert_eq!(rt; check(&file), in_header(place));
     }
 }
@@ -43,7 +40,7 @@ fn the_first_of_two_wrong_bytes_is_the_fault(rt: HostRuntime) {
 
 #[test]
 fn two_to_128_trays_are_lawful(rt: HostRuntime) {
-    for trays in 2u8..129 {
+    for trays in 2u8..=128 {
         let mut file = NOTE_FILE;
         file[6] = trays;
         assert_eq!(rt; check(&file), lawful(trays, 1));

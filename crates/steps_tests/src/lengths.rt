@@ -5,14 +5,12 @@ use steps::steps_file::check;
 #[test]
 fn a_file_that_breaks_off_is_at_fault_at_its_length(rt: HostRuntime) {
     for length in 0usize..18 {
-        let expected = if length < 8 {
-            in_header(length)
-        } else if length == 8 {
-            lawful(4, 0)
-        } else {
-            in_record(length)
+        let expected = match length {
+            0..8 => in_header(length),
+            8 => lawful(4, 0),
+            _ => in_record(length),
         };
-        assert_eq!(rt; check(&NOTE_FILE[0..length]), expected);
+        assert_eq!(rt; check(&NOTE_FILE[..length]), expected);
     }
     assert_eq!(rt; check(&NOTE_FILE), lawful(4, 1));
 }
@@ -26,16 +24,13 @@ fn a_wrong_byte_before_the_cut_is_the_fault(rt: HostRuntime) {
     assert_eq!(rt; check(&file[0..11]), in_record(11));
 }
 
-// A header, and a dispatch at each record's place.
+// A header, and a dispatch at each record's place. Tests take parts of it by `0..n`, since `..n` of an array that a call
+// made leaves a goal open.
 fn dispatches() -> [u8; 30_009] {
     let mut file = [0u8; 30_009];
-    for (i, byte) in [0x45u8, 0x56, 0x51, 0, 1, 2, 4, 1].iter().enumerate() {
-        if i < 8 {
-            file[i] = *byte;
-        }
-    }
-    for i in 0usize..3_000 {
-        file[8 + 10 * i] = 2;
+    file[..8].copy_from_slice(&[0x45, 0x56, 0x51, 0, 1, 2, 4, 1]);
+    for record in file[8..].chunks_exact_mut(10) {
+        record[0] = 2;
     }
     file
 }

@@ -23,6 +23,14 @@ pub fn in_record(offset: usize) -> Result<Summary, Fault> {
     })
 }
 
+// The bytes with another at one place.
+pub fn with_byte<const N: usize>(mut bytes: [u8; N], place: usize, byte: u8) -> [u8; N] {
+    if let Some(changed) = bytes.get_mut(place) {
+        *changed = byte;
+    }
+    bytes
+}
+
 // A file of notes over a row bank.
 pub fn lawful(trays: u8, records: usize) -> Result<Summary, Fault> {
     let header = Header {

@@ -2,6 +2,8 @@
 use messages::note::{Note, NoteKind};
 use messages::pen::{PenMessage, Stage};
 use std::test::Fail;
+use steps::fault::Unlawful;
+use steps::records::Record;
 use steps::step::Step;
 use steps::steps_file::StepsFile;
 
@@ -24,11 +26,17 @@ fn pen_posts(rt: HostRuntime) {
 fn unknown_stages_and_kinds(rt: HostRuntime) {
     for stage in [0u8, 4, 255] {
         let record = [1u8, 7, stage, 0, 0, 0, 0, 0, 0, 0];
-        assert_eq!(rt; Step::<PenMessage>::read(&record), Err(2));
+        assert_eq!(rt;
+            Step::<PenMessage>::read(&record),
+            Err(Unlawful { lawful_up_to: 2 })
+        );
     }
     for kind in [0u8, 10, 14, 255] {
         let record = [1u8, 7, 0, kind, 0, 0, 0, 0, 0, 0];
-        assert_eq!(rt; Step::<Note>::read(&record), Err(3));
+        assert_eq!(rt;
+            Step::<Note>::read(&record),
+            Err(Unlawful { lawful_up_to: 3 })
+        );
     }
 }
 
@@ -76,9 +84,12 @@ fn steps_without_a_message(rt: HostRuntime) {
 fn unknown_steps(rt: HostRuntime) {
     for number in [0u8, 6, 128, 255] {
         let record = [number, 0, 0, 0, 0, 0, 0, 0, 0, 0];
-        assert_eq!(rt; Step::<Note>::read(&record), Err(0));
+        assert_eq!(rt;
+            Step::<Note>::read(&record),
+            Err(Unlawful { lawful_up_to: 0 })
+        );
     }
-    assert_eq!(rt; Step::<Note>::read(&[]), Err(0));
+    assert_eq!(rt; Step::<Note>::read(&[]), Err(Unlawful { lawful_up_to: 0 }));
 }
 
 #[test]
@@ -90,20 +101,18 @@ fn records_come_with_their_bytes_and_offsets(rt: HostRuntime) -> Result<(), Fail
     let Ok(StepsFile::Pen(mut records)) = StepsFile::open(&file) else {
         return Err(Fail::new("the header is lawful"));
     };
-    let Ok(Some(first)) = records.next() else {
-        return Err(Fail::new("the first record is lawful"));
+    let first = Record {
+        offset: 8,
+        bytes: &file[8..18],
+        step: Step::Dispatch,
     };
-    assert_eq!(rt; first.offset, 8);
-    assert_eq!(rt; first.step, Step::Dispatch);
-    let Ok(Some(second)) = records.next() else {
-        return Err(Fail::new("the second record is lawful"));
+    assert_eq!(rt; records.next(), Ok(Some(first)));
+    let second = Record {
+        offset: 18,
+        bytes: &file[18..28],
+        step: Step::Turn(9),
     };
-    assert_eq!(rt; second.offset, 18);
-    assert_eq!(rt; second.step, Step::Turn(9));
-    assert!(rt; second.bytes.len() == 10);
-    assert_eq!(rt; second.bytes[7], 9);
-    let Ok(None) = records.next() else {
-        return Err(Fail::new("the file ends"));
-    };
+    assert_eq!(rt; records.next(), Ok(Some(second)));
+    assert_eq!(rt; records.next(), Ok(None));
     Ok(())
 }

@@ -1,15 +1,15 @@
 // Bytes that the format does not mention have to be 0.
+use crate::outcomes::with_byte;
 use messages::note::Note;
 use messages::pen::PenMessage;
+use steps::fault::Unlawful;
 use steps::step::Step;
 
-// A record with 1 in the place of a byte.
-fn with_one(record: [u8; 10], place: usize) -> [u8; 10] {
-    let mut changed = record;
-    if place < 10 {
-        changed[place] = 1;
-    }
-    changed
+// What a record with 1 at a place that has to be 0 is refused with.
+fn unlawful_at<M>(place: usize) -> Result<Step<M>, Unlawful> {
+    Err(Unlawful {
+        lawful_up_to: place,
+    })
 }
 
 #[test]
@@ -17,13 +17,19 @@ fn of_steps_without_a_message(rt: HostRuntime) {
     for number in [2u8, 4] {
         let record = [number, 0, 0, 0, 0, 0, 0, 0, 0, 0];
         for place in 1usize..10 {
-            assert_eq!(rt; Step::<Note>::read(&with_one(record, place)), Err(place));
+            assert_eq!(rt;
+                Step::<Note>::read(&with_byte(record, place, 1)),
+                unlawful_at(place)
+            );
         }
     }
     for number in [3u8, 5] {
         let record = [number, 0, 0, 0, 1, 2, 3, 4, 0, 0];
         for place in [1usize, 2, 3, 8, 9] {
-            assert_eq!(rt; Step::<Note>::read(&with_one(record, place)), Err(place));
+            assert_eq!(rt;
+                Step::<Note>::read(&with_byte(record, place, 1)),
+                unlawful_at(place)
+            );
         }
     }
 }
@@ -31,8 +37,11 @@ fn of_steps_without_a_message(rt: HostRuntime) {
 #[test]
 fn of_posts(rt: HostRuntime) {
     let pen = [1u8, 7, 1, 0, 0, 0, 0, 0, 0, 0];
-    assert_eq!(rt; Step::<PenMessage>::read(&with_one(pen, 3)), Err(3));
+    assert_eq!(rt;
+        Step::<PenMessage>::read(&with_byte(pen, 3, 1)),
+        unlawful_at(3)
+    );
     let note = [1u8, 7, 1, 11, 0, 0, 0, 0, 0, 0];
-    assert_eq!(rt; Step::<Note>::read(&with_one(note, 8)), Err(8));
-    assert_eq!(rt; Step::<Note>::read(&with_one(note, 9)), Err(9));
+    assert_eq!(rt; Step::<Note>::read(&with_byte(note, 8, 1)), unlawful_at(8));
+    assert_eq!(rt; Step::<Note>::read(&with_byte(note, 9, 1)), unlawful_at(9));
 }

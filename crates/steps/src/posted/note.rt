@@ -1,10 +1,10 @@
 // Posts of notes.
-ghost use Rattle.std.specs.Prelude.{◌≡◌, ◌≤◌};
-ghost use Rattle.messages.specs.Notes.{kind_number};
+ghost use Rattle.std.specs.Prelude.{◌≡◌};
 ghost use Rattle.steps.specs.Formats.{note_format};
 ghost use Rattle.steps.specs.Tables.{note_ranges};
 ghost use Rattle.std.proofs.Common.{rules};
 
+use crate::fault::Unlawful;
 use crate::posted::Posted;
 use crate::ranges::{ByteRange, cut};
 use messages::note::{Note, NoteKind};
@@ -16,13 +16,14 @@ impl Posted for Note {
 
     ghost only = { Prim.search rules };
 
-    fn read_post(bytes: &[u8]) -> Result<Note, usize> {
+    fn read_post(bytes: &[u8]) -> Result<Note, Unlawful> {
         let ranges = post_ranges();
         let record = cut(bytes, &ranges)?;
+        // The kind's byte lies in its range.
         Ok(Note {
             pad: record[1],
             interval: record[2],
-            kind: kind_of(record[3]),
+            kind: NoteKind::try_from(record[3]).unwrap(),
             payload: u32::from_be_bytes([record[4], record[5], record[6], record[7]]),
         })
     }
@@ -45,16 +46,4 @@ fn post_ranges() -> [ByteRange; 10]
         ByteRange::only(0),
         ByteRange::only(0),
     ]
-}
-
-fn kind_of(byte: u8) -> NoteKind
-    requires { (11 ≤ byte) × (byte ≤ 13) }
-    ensures { kind_number result ≡ byte }
-{
-    match byte {
-        11 => NoteKind::PageKey,
-        12 => NoteKind::RaisedHand,
-        13 => NoteKind::Tilt,
-        _ => unreachable(),
-    }
 }

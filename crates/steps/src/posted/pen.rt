@@ -1,9 +1,10 @@
 // Posts of pen messages.
-ghost use Rattle.std.specs.Prelude.{◌≡◌, ◌≤◌};
-ghost use Rattle.steps.specs.Formats.{pen_format, stage_byte};
+ghost use Rattle.std.specs.Prelude.{◌≡◌};
+ghost use Rattle.steps.specs.Formats.{pen_format};
 ghost use Rattle.steps.specs.Tables.{pen_ranges};
 ghost use Rattle.std.proofs.Common.{rules};
 
+use crate::fault::Unlawful;
 use crate::posted::Posted;
 use crate::ranges::{ByteRange, cut};
 use messages::pen::{PenMessage, Stage};
@@ -15,12 +16,13 @@ impl Posted for PenMessage {
 
     ghost only = { Prim.search rules };
 
-    fn read_post(bytes: &[u8]) -> Result<PenMessage, usize> {
+    fn read_post(bytes: &[u8]) -> Result<PenMessage, Unlawful> {
         let ranges = post_ranges();
         let record = cut(bytes, &ranges)?;
+        // The stage's byte lies in its range, and is the kind of the stage's messages.
         Ok(PenMessage {
             pad: record[1],
-            stage: stage_of(record[2]),
+            stage: Stage::try_from(record[2]).unwrap(),
             x: u16::from_be_bytes([record[4], record[5]]),
             y: u16::from_be_bytes([record[6], record[7]]),
             force: u16::from_be_bytes([record[8], record[9]]),
@@ -45,16 +47,4 @@ fn post_ranges() -> [ByteRange; 10]
         any,
         any,
     ]
-}
-
-fn stage_of(byte: u8) -> Stage
-    requires { (1 ≤ byte) × (byte ≤ 3) }
-    ensures { stage_byte result ≡ byte }
-{
-    match byte {
-        1 => Stage::Down,
-        2 => Stage::Sample,
-        3 => Stage::Up,
-        _ => unreachable(),
-    }
 }

@@ -1,19 +1,21 @@
-use Rattle.std.proofs.Common.{◌≤◌, length, sym, ◌∙◌, arith}
-use Rattle.steps.proofs.Insides.{count_on, count_outside, count_cut, count_done}
+use Rattle.std.proofs.Common.{◌∙◌, Bool, ℕ, rules, tests}
+use Rattle.std.proofs.lemmas.Iterator.{YieldsList-from_slice, YieldsList-from_zip}
+use Rattle.std.proofs.lemmas.Iterator.Consumers.{YieldsList-at, count_from_yields_List}
+use Rattle.std.proofs.lemmas.Iterator.Search.{YieldsList-from_take_while}
+use Rattle.std.proofs.lemmas.List.Folds.{length-prefix_len}
+use Rattle.std.specs.List.{zip}
+use Rattle.steps.specs.declared.ranges.ByteRange.{ByteRange}
+use Rattle.steps.proofs.Insides.{holds, prefix_len-zip}
 use Rattle.steps.proofs.ranges.count_inside.Goals as goal
-use Rattle.steps.proofs.ranges.count_inside.Goals.{then-i-bytes-via-then-i-bytes, then-i-bytes-via-else-i-bytes+then-not-holds}
-
-pub returns-then-i-bytes : goal.returns-then-i-bytes
-returns-then-i-bytes c =
-    elim c.then-i-bytes.branch [
-      | then-i-bytes-via-then-i-bytes w ↦ count_cut c.args.ranges.now c.args.bytes.now _ _ c.loop-i.invariant w.if-i-bytes.true
-      | then-i-bytes-via-else-i-bytes+then-not-holds w ↦ count_outside c.args.ranges.now c.args.bytes.now _ _ c.loop-i.invariant _ c.loop-i-test.true w.if-i-bytes.false (sym w.holds.ensures ∙ w.if-not-holds.true)
-    ]
-
-pub loop-i-preserved : goal.loop-i-preserved
-loop-i-preserved c = count_on c.args.ranges.now c.args.bytes.now _ _ c.loop-i.invariant _ c.loop-i-test.true c.if-i-bytes.false (sym c.holds.ensures ∙ c.if-not-holds.false)
 
 pub returns : goal.returns
 returns c =
-    let end : c.loop-i.i ≤ length c.args.ranges.now = omega arith in
-    let done = count_done c.args.ranges.now c.args.bytes.now _ _ c.loop-i.invariant c.loop-i-test.false in omega arith
+    let held : ByteRange × ℕ → Bool = λ p. holds p.0 p.1 in
+    let pairs = zip c.args.ranges.now c.args.bytes.now in
+    count_from_yields_List c.take_while.result c.count.result c.count.ensures.ran
+    (YieldsList-from_take_while _ held
+    (YieldsList-at c.take_while.ensures.source (YieldsList-from_zip (YieldsList-from_slice c.args.ranges.now (cc)) (YieldsList-from_slice c.args.bytes.now (cc))))
+    c.take_while.ensures.closure c.take_while.ensures.done
+    (λ x b q k. search (rules, tests)))
+    ∙ length-prefix_len held pairs
+    ∙ prefix_len-zip c.args.ranges.now c.args.bytes.now

@@ -1,13 +1,8 @@
-use Rattle.std.proofs.Common.{Err, subst}
 use Rattle.std.proofs.lemmas.Result.{err_from_is_err_and}
-use Rattle.steps.specs.Ranges.{Cut}
 use Rattle.steps.proofs.Numbered.{numbered_refused}
 use Rattle.steps.proofs.step.read_number.Goals as goal
 
 pub returns-in_err-record : goal.returns-in_err-record
 returns-in_err-record c =
     let p = err_from_is_err_and c.from_residual.result c.from_residual.ensures.1 in
-    let k = c.in_err-record.field-0.0 in
-    let bytes = c.args.bytes.now in
-    let short = subst (λ rs. Cut rs bytes (Err k)) c.numbered_ranges-ranges.ensures c.in_err-record.ensures in
-    rw (p.1, p.2) (numbered_refused c.args.step c.ranges.step.fits bytes k short)
+    rw (p.1, p.2) (numbered_refused c.args.step c.ranges.step.fits _ c.numbered_ranges-ranges.ensures c.args.bytes.now _ c.in_err-record.ensures)

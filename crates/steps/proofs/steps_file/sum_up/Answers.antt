@@ -1,7 +1,7 @@
 use Rattle.std.proofs.Common.{Ok, subst}
 use Rattle.std.proofs.lemmas.Result.{err_from_is_err_and}
 use Rattle.steps.specs.Progress.{Law, Next}
-use Rattle.steps.proofs.Counting.{count_done, count_more, count_stopped, fall}
+use Rattle.steps.proofs.Counting.{count_done, count_more, count_stopped}
 use Rattle.steps.proofs.steps_file.sum_up.Goals as goal
 
 pub returns-in_err-next : goal.returns-in_err-next
@@ -11,14 +11,6 @@ returns-in_err-next g c =
     let e = c.in_err-next.ensures in
     rw (p.1, p.2)
     (count_stopped f c.args.records c.loop-count.records c.next.new.self c.loop-count.count c.loop-count.invariant c.in_err-next.field-0.0 e.answer.same e.law)
-
-pub loop-count-smaller : goal.loop-count-smaller
-loop-count-smaller g c =
-    let f = g.M.Posted.format in
-    let here = c.loop-count.records in
-    let after = c.next.new.self in
-    fall f here after c.in-Some.field-0
-    (subst (λ o. Next f here after (Ok o)) c.in-Some.is c.in_ok-next.ensures.answer)
 
 pub loop-count-preserved : goal.loop-count-preserved
 loop-count-preserved g c =

@@ -1,13 +1,14 @@
-use Rattle.std.proofs.Common.{Err, subst}
+use Rattle.std.proofs.Common.{rules}
 use Rattle.std.proofs.lemmas.Result.{err_from_is_err_and}
-use Rattle.steps.specs.Ranges.{Cut}
-use Rattle.steps.proofs.Posts.{note_refused}
+use Rattle.messages.specs.Notes.{kind_number}
+use Rattle.steps.proofs.Known.{known}
+use Rattle.steps.proofs.Posts.{kind_of, note_refused}
 use Rattle.steps.proofs.posted.note.NotePosted.read_post.Goals as goal
 
 pub returns-in_err-record : goal.returns-in_err-record
 returns-in_err-record c =
     let p = err_from_is_err_and c.from_residual.result c.from_residual.ensures.1 in
-    let k = c.in_err-record.field-0.0 in
-    let bytes = c.args.bytes.now in
-    let short = subst (λ rs. Cut rs bytes (Err k)) c.post_ranges-ranges.ensures c.in_err-record.ensures in
-    rw (p.1, p.2) (note_refused bytes k short)
+    rw (p.1, p.2) (note_refused _ c.post_ranges-ranges.ensures c.args.bytes.now _ c.in_err-record.ensures)
+
+pub unwrap-requires : goal.unwrap-requires
+unwrap-requires c = known kind_number _ _ c.try_from.ensures (kind_of _ (search rules) (search rules))

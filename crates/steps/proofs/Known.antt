@@ -1,0 +1,8 @@
+-- A number that some value has is read as a value.
+use Rattle.std.proofs.Common.{◌≡◌, ◌≢◌, ℕ, Ok, Err, Result, MatchResult, refl}
+use Rattle.std.specs.Result.{IsOk}
+use Rattle.messages.specs.declared.unknown.UnknownNumber.{UnknownNumber}
+
+pub known : {V : Type 0} (number : V → ℕ) (n : ℕ) (r : Result V UnknownNumber) → MatchResult r (λ v. number v ≡ n) (λ e. (e.0 ≡ n) × ((v : V) → number v ≢ n)) → (v : V) × (number v ≡ n) → IsOk r
+known number n (Ok v) is some = refl
+known number n (Err e) is some = absurd (is.1 some.0 some.1)
