@@ -14,11 +14,6 @@ use Rattle.banks.specs.Trays.{tray_at, held_in, first_of, without_first}
 
 -- heads
 
-pub head_none : (n k : ℕ) → head_at (replicate n no_head) k ≡ no_head
-head_none zero k = refl
-head_none (suc n) zero = refl
-head_none (suc n) (suc k) = head_none n k
-
 pub counted_sum : (hs : List Head) → sum_by (λ h. h.count) hs ≡ counted hs
 counted_sum [] = refl
 counted_sum (h ∷ hs) = sum_by-cons (λ h. h.count) h hs ∙ ap (λ n. h.count + n) (counted_sum hs)
