@@ -1,6 +1,5 @@
 -- Trays that are rings, each in a row of its own, side by side in one table of cells.
-use Rattle.std.specs.Prelude.{ℕ, zero, suc, ◌+◌, ◌-◌, ◌*◌, ◌/◌, ◌%◌, cond, List, [], ◌∷◌, ◌++◌, take, ◌==◌, slice_index_or}
-use Rattle.banks.specs.Serving.{serving}
+use Rattle.std.specs.Prelude.{ℕ, zero, suc, ◌+◌, ◌-◌, ◌*◌, ◌/◌, ◌%◌, min, cond, List, [], ◌∷◌, ◌++◌, take, ◌==◌, nat_le, slice_index_or}
 use Rattle.banks.specs.Tables.{cell_at}
 use Rattle.rows.specs.declared.head.Head.{Head}
 
@@ -44,7 +43,7 @@ row_trays cells size n heads = rings cells size 0 (take n heads)
 -- the limit of each tray of a row bank: what a table of len cells, of which 1024 serve at most, has for each of t trays;
 -- 0 where there are no trays, or more than 128
 abbrev pub row_limit : ℕ → ℕ → ℕ
-row_limit len t = serving len t / t
+row_limit len t = cond (nat_le t 128) (min len 1024 / t) 0
 
 -- how many trays that bank has: as many as were asked for, if each has room
 abbrev pub row_number : ℕ → ℕ → ℕ
