@@ -1,5 +1,5 @@
--- Cells of a table after one is written, and a take from an empty tray.
-use Rattle.std.proofs.Common.{◌≡◌, ℕ, zero, suc, ◌<◌, List, [], ◌∷◌, length, get_or, take, set, None, sym, refl, ap, ◌∙◌, arith}
+-- Cells of a table after one is written, lists of one element, and a take from an empty tray.
+use Rattle.std.proofs.Common.{◌≡◌, ℕ, zero, suc, ◌<◌, List, [], ◌∷◌, length, get_or, take, set, replicate, None, sym, refl, ap, ◌∙◌, arith}
 use Rattle.std.proofs.lemmas.List.{set-get_or}
 use Rattle.banks.specs.Tables.{cell_at}
 use Rattle.banks.specs.Trays.{first_of, tray_at, without_first}
@@ -25,6 +25,12 @@ pub cell_one : {C : Type 0} (cells : List C) (i : ℕ) → i < length cells → 
 cell_one [] i l = absurd (omega arith)
 cell_one (x ∷ xs) zero l = refl
 cell_one (x ∷ xs) (suc i) l = cell_one xs i (omega arith)
+
+-- a read of a list of one element alone, with that element for what lies past the end
+pub get_or_replicate_self : {C : Type 0} (n k : ℕ) (d : C) → get_or (replicate n d) k d ≡ d
+get_or_replicate_self zero k d = refl
+get_or_replicate_self (suc n) zero d = refl
+get_or_replicate_self (suc n) (suc k) d = get_or_replicate_self n k d
 
 -- a write to a front of a list
 pub take_set : {C : Type 0} (n : ℕ) (l : List C) (i : ℕ) (a : C) → take n (set l i a) ≡ set (take n l) i a

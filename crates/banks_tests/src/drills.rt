@@ -1,6 +1,5 @@
 // What any bank has to do.
 use banks::bank::Bank;
-use banks::cell::Cell;
 use messages::note::Note;
 use messages::refusal::Refusal;
 use std::process::Abort;
@@ -14,7 +13,7 @@ pub fn fill_and_empty<B: Bank<Item = Note>>(
 ) -> Result<usize, Fail> {
     let mut placed = 0u32;
     for receipt in 0u32..2_000 {
-        match bank.put(tray, receipt, Note::BLANK) {
+        match bank.put(tray, receipt, Note::default()) {
             Ok(()) => placed = receipt + 1,
             Err(refusal) => {
                 assert_eq!(rt; refusal, Refusal::Full);
@@ -24,10 +23,10 @@ pub fn fill_and_empty<B: Bank<Item = Note>>(
     }
     let held = bank.count(tray);
     for receipt in 0..placed {
-        match bank.take(tray) {
-            Some(cell) => assert_eq!(rt; cell.receipt, receipt),
-            None => return Err(Fail::new("a cell is missing")),
-        }
+        let cell = bank
+            .take(tray)
+            .ok_or_else(|| Fail::new("a cell is missing"))?;
+        assert_eq!(rt; cell.receipt, receipt);
     }
     assert!(rt; bank.take(tray).is_none());
     assert_eq!(rt; bank.total(), 0);
@@ -43,14 +42,14 @@ pub fn interleave<B: Bank<Item = Note>>(
     let trays = bank.tray_count();
     for round in 0..rounds {
         for tray in 0..trays {
-            assert_eq!(rt; bank.put(tray, round, Note::BLANK), Ok(()));
+            assert_eq!(rt; bank.put(tray, round, Note::default()), Ok(()));
         }
         assert_eq!(rt; bank.total(), trays);
         for tray in 0..trays {
-            match bank.take(tray) {
-                Some(cell) => assert_eq!(rt; cell.receipt, round),
-                None => return Err(Fail::new("a tray lost its cell")),
-            }
+            let cell = bank
+                .take(tray)
+                .ok_or_else(|| Fail::new("a tray lost its cell"))?;
+            assert_eq!(rt; cell.receipt, round);
         }
         assert_eq!(rt; bank.total(), 0);
     }
@@ -60,7 +59,10 @@ pub fn interleave<B: Bank<Item = Note>>(
 // A tray that does not exist holds nothing, gives nothing and takes nothing.
 pub fn no_such_tray<B: Bank<Item = Note>>(rt: &impl Abort, bank: &mut B, tray: usize) {
     let held = bank.total();
-    assert_eq!(rt; bank.put(tray, 7, Note::BLANK), Err(Refusal::NoSuchTray));
+    assert_eq!(rt;
+        bank.put(tray, 7, Note::default()),
+        Err(Refusal::NoSuchTray)
+    );
     assert!(rt; bank.take(tray).is_none());
     assert_eq!(rt; bank.count(tray), 0);
     assert_eq!(rt; bank.total(), held);
@@ -70,9 +72,3 @@ pub fn no_such_tray<B: Bank<Item = Note>>(rt: &impl Abort, bank: &mut B, tray: u
 pub fn measures<B: Bank<Item = Note>>(bank: &B) -> (usize, usize, usize) {
     (bank.tray_count(), bank.tray_limit(), bank.total_limit())
 }
-
-// What the tests' tables hold before the first put.
-pub const BLANK: Cell<Note> = Cell {
-    receipt: 0,
-    message: Note::BLANK,
-};

@@ -1,5 +1,5 @@
 // Banks made over tables of every length.
-use crate::drills::{BLANK, measures, no_such_tray};
+use crate::drills::{measures, no_such_tray};
 use banks::cell::Cell;
 use chains::chain_bank::ChainBank;
 use messages::note::Note;
@@ -49,14 +49,14 @@ fn check_all(rt: &impl Abort, table: &mut [Cell<Note>]) -> Result<(), Fail> {
 
 #[test]
 fn trays_and_limits_are_those_of_the_table(rt: HostRuntime) -> Result<(), Fail> {
-    let mut table = [BLANK; 5_000];
+    let mut table = [Cell::default(); 5_000];
     check_all(&rt, &mut table)
 }
 
 #[test]
 fn a_bank_of_no_trays_takes_nothing(rt: HostRuntime) {
-    let mut table = [BLANK; 3];
+    let mut table = [Cell::default(); 3];
     no_such_tray(&rt, &mut RowBank::new(&mut table, 4), 0);
-    let mut nothing = [BLANK; 0];
+    let mut nothing = [Cell::default(); 0];
     no_such_tray(&rt, &mut ChainBank::new(&mut nothing, 4), 0);
 }

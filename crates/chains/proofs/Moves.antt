@@ -1,15 +1,14 @@
 -- What a put and a take do to the trays of a chain bank.
-use Rattle.std.proofs.Common.{◌≡◌, ℕ, zero, suc, ◌+◌, ◌-◌, ◌<◌, ◌≤◌, List, [], ◌∷◌, ◌++◌, length, get_or, take, set, replicate, Some, sym, refl, ap, ◌∙◌, inl, inr, append_assoc, append-nil, arith, length-append, length-set, length-take}
-use lib.ListN.{length-replicate}
-use Rattle.std.proofs.lemmas.List.{take-replicate, get_or_past, get_or-take, take-set-le, get_or-set_other, get_or-set_same}
+use Rattle.std.proofs.Common.{◌≡◌, ℕ, zero, suc, ◌+◌, ◌-◌, ◌<◌, ◌≤◌, List, [], ◌∷◌, ◌++◌, length, get_or, take, set, replicate, Some, sym, refl, ap, ◌∙◌, inl, inr, append_assoc, append-nil, arith, length-append, length-take}
+use Rattle.std.proofs.lemmas.List.{take-replicate, get_or_past, get_or-take}
 use Rattle.std.proofs.lemmas.Bool.{cases_lt}
 use Rattle.banks.specs.Tables.{cell_at}
 use Rattle.banks.specs.Trays.{tray_at, held_in, first_of, without_first}
 use Rattle.banks.proofs.Cells.{cell_other, cell_same, cell_read, cell_one, take_set}
 use Rattle.chains.specs.declared.link.Link.{Link}
-use Rattle.chains.specs.Chains.{no_link, link_at, step, place, Has, Inside, Free, counted, popped, without, Grown, chain_cells, chain_rows, chain_trays, all_free}
+use Rattle.chains.specs.Chains.{no_link, link_at, step, place, Has, Inside, Free, counted, popped, Grown, chain_cells, chain_rows, chain_trays}
 use Rattle.chains.specs.ChainLaws.{rows_length}
-use Rattle.chains.proofs.Steps.{step_next, counted_set, counted_none}
+use Rattle.chains.proofs.Steps.{step_next, counted_set}
 
 pub chain_keep : {C : Type 0} (cells after : List C) (next next' : List ℕ) (from from' n : ℕ) → ((i : ℕ) → i < n → cell_at after (step next' from' i) ≡ cell_at cells (step next from i)) → chain_cells after next' from' n ≡ chain_cells cells next from n
 chain_keep cells after next next' from from' zero same = refl
@@ -89,19 +88,18 @@ put_rows cells next next' heads after n k p c g free l long e lt =
     ∙ ap (λ q. tray_at (chain_trays cells next n heads) k ++ cell_at (set cells p c) q) g.new
     ∙ ap (λ t. tray_at (chain_trays cells next n heads) k ++ t) (cell_same cells p c lt))
 
--- a chain that is no tray grows
-pub push_rows : {C : Type 0} (cells : List C) (next next' : List ℕ) (heads after : List Link) (n k p : ℕ) → Grown heads next after next' k p → n ≤ k → n ≤ length heads → length after ≡ length heads
-    → chain_trays cells next' n after ≡ chain_trays cells next n heads
-push_rows cells next next' heads after n k p g l long e =
+-- each entry of the trays' chains stays where it was
+pub kept_rows : {C : Type 0} (cells : List C) (next next' : List ℕ) (heads : List Link) (n : ℕ) → n ≤ length heads → ((j a : ℕ) → Has heads j a → place heads next' j a ≡ place heads next j a)
+    → chain_trays cells next' n heads ≡ chain_trays cells next n heads
+kept_rows cells next next' heads n long kept =
     let len : length (take n heads) ≡ n = rw length-take (omega arith) in
-    let len' : length (take n after) ≡ n = rw length-take (omega arith) in
-    rows_keep cells cells next next' (take n heads) (take n after) (len' ∙ sym len)
+    rows_keep cells cells next next' (take n heads) (take n heads) refl
     (λ j u.
-    let v : j < n = omega arith in
-    ap (at_link cells next') (get_or-take n after j no_link v)
-    ∙ ap (chain_cells cells next' (link_at after j).first) (g.others j (λ z. omega arith)).0
-    ∙ chain_keep cells cells next next' (link_at heads j).first (link_at after j).first (link_at heads j).count (λ i h. ap (cell_at cells) (g.kept j i h))
-    ∙ ap (at_link cells next) (sym (get_or-take n heads j no_link v)))
+    let e : link_at (take n heads) j ≡ link_at heads j = get_or-take n heads j no_link (omega arith) in
+    let h = link_at heads j in
+    ap (at_link cells next') e
+    ∙ chain_keep cells cells next next' h.first h.first h.count (λ i has. ap (cell_at cells) (kept j i has))
+    ∙ ap (at_link cells next) (sym e))
 
 -- the first place of a tray is taken out
 pub pop_rows : {C : Type 0} (cells : List C) (next : List ℕ) (heads : List Link) (n k : ℕ) (c : C) → k < n → 0 < (link_at heads k).count → (link_at heads k).first < length cells → c ≡ get_or cells (link_at heads k).first c
@@ -119,36 +117,14 @@ pop_rows cells next heads n k c l some lt read =
           ∙ ap (λ t. set (chain_trays cells next n heads) k t) (sym (ap without_first tray)),
     )
 
--- what all trays count, with the free chain f
-
-pub counts_put : (heads after : List Link) (next : List ℕ) (n k f : ℕ) → k < n → n ≤ f → f < length heads → n ≤ length heads → 0 < (link_at heads f).count
-    → after ≡ set (without heads next f) k (link_at after k) → (link_at after k).count ≡ suc (link_at (without heads next f) k).count
-    → (link_at after f).count ≡ (link_at (without heads next f) f).count
-    → counted (take n after) + (link_at after f).count ≡ counted (take n heads) + (link_at heads f).count
-counts_put heads after next n k f l u lf long some e more same =
-    let h = link_at after k in
-    let w = without heads next f in
+-- what all trays count once the chain of one has changed
+pub counted_front : (heads : List Link) (n k : ℕ) (h' : Link) → k < n → n ≤ length heads → counted (take n (set heads k h')) + (link_at heads k).count ≡ counted (take n heads) + h'.count
+counted_front heads n k h' l long =
     let len : length (take n heads) ≡ n = rw length-take (omega arith) in
-    let cut : take n w ≡ take n heads = take-set-le n heads f (popped next (link_at heads f)) u in
-    let one : take n after ≡ set (take n heads) k h = ap (take n) e ∙ take_set n w k h ∙ ap (λ t. set t k h) cut in
-    let sum = counted_set (take n heads) k h (omega arith) in
-    let kept : link_at (take n heads) k ≡ link_at heads k = get_or-take n heads k no_link l in
-    let was : link_at w k ≡ link_at heads k = get_or-set_other heads f k (popped next (link_at heads f)) no_link (λ z. omega arith) in
-    let less : link_at w f ≡ popped next (link_at heads f) = get_or-set_same heads f (popped next (link_at heads f)) no_link lf in
-    omega (arith, ap counted one, ap (λ x. x.count) kept, ap (λ x. x.count) was, ap (λ x. x.count) less)
-
-pub counts_take : (heads after : List Link) (next : List ℕ) (n k f : ℕ) → k < n → n ≤ f → f < length heads → n ≤ length heads → 0 < (link_at heads k).count
-    → after ≡ set (without heads next k) f (link_at after f) → (link_at after f).count ≡ suc (link_at (without heads next k) f).count
-    → counted (take n after) + (link_at after f).count ≡ counted (take n heads) + (link_at heads f).count
-counts_take heads after next n k f l u lf long some e more =
-    let h = link_at after f in
-    let w = without heads next k in
-    let len : length (take n heads) ≡ n = rw length-take (omega arith) in
-    let one : take n after ≡ set (take n heads) k (popped next (link_at heads k)) = ap (take n) e ∙ take-set-le n w f h u ∙ take_set n heads k (popped next (link_at heads k)) in
-    let sum = counted_set (take n heads) k (popped next (link_at heads k)) (omega arith) in
-    let kept : link_at (take n heads) k ≡ link_at heads k = get_or-take n heads k no_link l in
-    let was : link_at w f ≡ link_at heads f = get_or-set_other heads k f (popped next (link_at heads k)) no_link (λ z. omega arith) in
-    omega (arith, ap counted one, ap (λ x. x.count) kept, ap (λ x. x.count) was)
+    let cut = ap counted (take_set n heads k h') in
+    let sum = counted_set (take n heads) k h' (omega arith) in
+    let kept = ap (λ h. h.count) (get_or-take n heads k no_link l) in
+    omega arith
 
 pub held_counted : {C : Type 0} (cells : List C) (next : List ℕ) (hs : List Link) → ((k i : ℕ) → Has hs k i → place hs next k i < length cells) → held_in (chain_rows cells next hs) ≡ counted hs
 held_counted cells next [] inside = refl
@@ -163,14 +139,18 @@ trays_count cells next n heads long = rw (rows_length, length-take) (omega arith
 pub trays_past : {C : Type 0} (cells : List C) (next : List ℕ) (n : ℕ) (heads : List Link) (k : ℕ) → n ≤ k → tray_at (chain_trays cells next n heads) k ≡ []
 trays_past cells next n heads k l = get_or_past (chain_trays cells next n heads) k [] (rw (rows_length, length-take) (omega arith))
 
-pub trays_exists : {C : Type 0} (cells : List C) (next : List ℕ) (n : ℕ) (heads : List Link) (k : ℕ) → 0 < length (tray_at (chain_trays cells next n heads) k) → k < n
-trays_exists cells next n heads k some =
-    elim (cases_lt k n) [ inl l ↦ l | inr u ↦ absurd (let e = ap length (trays_past cells next n heads k u) in omega arith) ]
-
 pub trays_holds : {C : Type 0} (cells : List C) (next : List ℕ) (n : ℕ) (heads : List Link) (k size : ℕ) → k < n → Inside heads next size → size ≤ length cells → length (tray_at (chain_trays cells next n heads) k) ≡ (link_at heads k).count
 trays_holds cells next n heads k size l inside fits =
     ap length (rows_at cells next (take n heads) k ∙ ap (at_link cells next) (get_or-take n heads k no_link l))
     ∙ chain_length cells next (link_at heads k).first (link_at heads k).count (λ i h. let e = inside k i h in omega arith)
+
+-- a tray that holds something is there, and its chain has a place
+pub trays_exists : {C : Type 0} (cells : List C) (next : List ℕ) (n : ℕ) (heads : List Link) (k size : ℕ) → Inside heads next size → size ≤ length cells → 0 < length (tray_at (chain_trays cells next n heads) k) → (k < n) × (0 < (link_at heads k).count)
+trays_exists cells next n heads k size inside fits some =
+    elim (cases_lt k n) [
+      | inl l ↦ let h = trays_holds cells next n heads k size l inside fits in (l, omega arith)
+      | inr u ↦ absurd (let e = ap length (trays_past cells next n heads k u) in omega arith)
+    ]
 
 -- an entry of one of the first n chains is an entry
 front_has : (heads : List Link) (n k i : ℕ) → Has (take n heads) k i → k < n
@@ -189,38 +169,18 @@ trays_held cells next n heads size inside fits =
     let u = inside k i (omega arith) in
     omega arith)
 
-pub put_step : {C : Type 0} (cells : List C) (next next' : List ℕ) (heads after : List Link) (n k f p : ℕ) (c : C) → Grown (without heads next f) next after next' k p → Free (without heads next f) next p → k < n → n ≤ 128 → n ≤ f → length heads ≡ length after × (n ≤ length heads) → p < length cells
-    → chain_trays (set cells p c) next' n after ≡ set (chain_trays cells next n heads) k (tray_at (chain_trays cells next n heads) k ++ (c ∷ []))
-put_step cells next next' heads after n k f p c g free l few u long lt =
-    let w = without heads next f in
-    let same : length w ≡ length heads = length-set heads f (popped next (link_at heads f)) in
-    let cut : chain_trays cells next n w ≡ chain_trays cells next n heads = ap (chain_rows cells next) (take-set-le n heads f (popped next (link_at heads f)) u) in
-    put_rows cells next next' w after n k p c g free l (let z = long.1 in omega arith) (sym long.0 ∙ sym same) lt ∙ ap (λ t. set t k (tray_at t k ++ (c ∷ []))) cut
+-- chains of which none has a place
 
-pub take_step : {C : Type 0} (cells : List C) (next next' : List ℕ) (heads after : List Link) (n k f p : ℕ) (c : C) (first : ℕ) → Grown (without heads next k) next after next' f p → k < n → n ≤ 128 → n ≤ f → length heads ≡ length after × (n ≤ length heads) → 0 < (link_at heads k).count → first < length cells → first ≡ (link_at heads k).first → c ≡ get_or cells first c
-    → (Some c ≡ first_of (tray_at (chain_trays cells next n heads) k))
-    × (chain_trays cells next' n after ≡ set (chain_trays cells next n heads) k (without_first (tray_at (chain_trays cells next n heads) k)))
-take_step cells next next' heads after n k f p c first g l few u long some lt e read =
-    let w = without heads next k in
-    let same : length w ≡ length heads = length-set heads k (popped next (link_at heads k)) in
-    let t = pop_rows cells next heads n k c l some (omega arith) (rw e at read) in
-    (t.0, push_rows cells next next' w after n f p g u (let z = long.1 in omega arith) (sym long.0 ∙ sym same) ∙ t.1)
+counted_none : (n : ℕ) → counted (replicate n no_link) ≡ 0
+counted_none zero = refl
+counted_none (suc n) = let e = counted_none n in omega arith
 
-pub rows_none : {C : Type 0} (cells : List C) (next : List ℕ) (n : ℕ) → chain_rows cells next (replicate n no_link) ≡ replicate n []
+pub counted_fresh : (n m : ℕ) → n ≤ m → counted (take n (replicate m no_link)) ≡ 0
+counted_fresh n m l = ap counted (take-replicate n m no_link l) ∙ counted_none n
+
+rows_none : {C : Type 0} (cells : List C) (next : List ℕ) (n : ℕ) → chain_rows cells next (replicate n no_link) ≡ replicate n []
 rows_none cells next zero = refl
 rows_none cells next (suc n) = ap (λ t. [] ∷ t) (rows_none cells next n)
 
-pub free_front : (n size : ℕ) (heads : List Link) → n ≤ 128 → heads ≡ all_free size → take n heads ≡ replicate n no_link
-free_front n size heads few e =
-    ap (take n) e ∙ take-set-le n (replicate 129 no_link) 128 (record { first = 0; last = size - 1; count = size }) few ∙ take-replicate n 129 no_link (omega arith)
-
-pub free_all : (n size : ℕ) (heads : List Link) → n ≤ 128 → heads ≡ all_free size → counted (take n heads) + (link_at heads 128).count ≡ size
-free_all n size heads few e =
-    let h : Link = record { first = 0; last = size - 1; count = size } in
-    let c = ap counted (free_front n size heads few e) ∙ counted_none n in
-    let l = ap (λ x. (link_at x 128).count) e ∙ ap (λ x. x.count) (get_or-set_same (replicate 129 no_link) 128 h no_link (rw length-replicate (omega arith))) in
-    omega arith
-
-pub free_trays : {C : Type 0} (cells : List C) (next : List ℕ) (n m size : ℕ) (heads : List Link) → n ≤ 128 → heads ≡ all_free size → n ≡ m → chain_trays cells next n heads ≡ replicate m []
-free_trays cells next n m size heads few e f =
-    ap (chain_rows cells next) (free_front n size heads few e) ∙ rows_none cells next n ∙ ap (λ k. replicate k []) f
+pub trays_none : {C : Type 0} (cells : List C) (next : List ℕ) (n m : ℕ) → n ≤ m → chain_trays cells next n (replicate m no_link) ≡ replicate n []
+trays_none cells next n m l = ap (chain_rows cells next) (take-replicate n m no_link l) ∙ rows_none cells next n

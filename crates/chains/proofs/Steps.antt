@@ -1,10 +1,9 @@
 -- What taking a place out of a chain, and putting one at its end, does to all chains.
-use Rattle.std.proofs.Common.{◌≡◌, ℕ, zero, suc, ◌+◌, ◌-◌, ◌<◌, ◌≤◌, ◌⊎◌, List, [], ◌∷◌, length, get_or, set, replicate, sym, refl, ap, ◌∙◌, subst, inl, inr, zero-add, add-one, arith}
-use lib.ListN.{length-replicate}
+use Rattle.std.proofs.Common.{◌≡◌, ℕ, zero, suc, ◌+◌, ◌-◌, ◌<◌, ◌≤◌, ◌⊎◌, List, [], ◌∷◌, length, get_or, set, sym, refl, ap, ◌∙◌, inl, inr, zero-add, arith}
 use Rattle.std.proofs.lemmas.List.{get_or-set_same, get_or-set_other}
 use Rattle.std.proofs.lemmas.Bool.{cases_lt, cases_eq}
 use Rattle.chains.specs.declared.link.Link.{Link}
-use Rattle.chains.specs.Chains.{no_link, link_at, step, place, Has, Inside, Meet, Apart, Ends, Free, counted, popped, without, Grown, all_free}
+use Rattle.chains.specs.Chains.{no_link, link_at, step, place, Has, Inside, Meet, Apart, Ends, Free, counted, popped, without, Grown}
 
 pub counted_at : (hs : List Link) (k : ℕ) → (link_at hs k).count ≤ counted hs
 counted_at [] k = omega arith
@@ -183,66 +182,3 @@ module _ (heads : List Link) (next : List ℕ) (k p : ℕ) (l : k < length heads
     end = ap (λ h. h.last) (get_or-set_same heads k alone no_link l);
     others = λ j other. (ap (λ h. h.count) (get_or-set_other heads k j alone no_link other), ap (λ h. h.last) (get_or-set_other heads k j alone no_link other));
   }
-
-pub grown_from : {heads heads₁ : List Link} {next next₁ : List ℕ} {after : List Link} {next' : List ℕ} {k p : ℕ} → heads₁ ≡ heads → next₁ ≡ next → Grown heads₁ next₁ after next' k p → Grown heads next after next' k p
-grown_from {heads} {heads₁} {next} {next₁} {after} {next'} {k} {p} e f g =
-    subst (λ h. Grown h next after next' k p) e (subst (λ n. Grown heads₁ n after next' k p) f g)
-
-pub free_from : {heads heads₁ : List Link} {next next₁ : List ℕ} {p : ℕ} → heads₁ ≡ heads → next₁ ≡ next → Free heads₁ next₁ p → Free heads next p
-free_from {heads} {heads₁} {next} {next₁} {p} e f g =
-    subst (λ h. Free h next p) e (subst (λ n. Free heads₁ n p) f g)
-
--- all places in one chain
-
-pub counted_none : (n : ℕ) → counted (replicate n no_link) ≡ 0
-counted_none zero = refl
-counted_none (suc n) = let e = counted_none n in omega arith
-
-pub link_none : (n k : ℕ) → link_at (replicate n no_link) k ≡ no_link
-link_none zero k = refl
-link_none (suc n) zero = refl
-link_none (suc n) (suc k) = link_none n k
-
-module _ (next : List ℕ) (size : ℕ) (each : (k : ℕ) → k < 1024 → get_or next k 0 ≡ k + 1) (small : size ≤ 1024) where
-  pub step_id : (a : ℕ) → a ≤ 1024 → step next 0 a ≡ a
-  step_id zero l = refl
-  step_id (suc a) l = ap (λ p. get_or next p 0) (step_id a (omega arith)) ∙ each a (omega arith) ∙ add-one a
-
-  abbrev whole_link : Link
-  whole_link = record { first = 0; last = size - 1; count = size }
-
-  free_link : link_at (all_free size) 128 ≡ whole_link
-  free_link = get_or-set_same (replicate 129 no_link) 128 whole_link no_link (rw length-replicate (omega arith))
-
-  -- an entry is one of the free chain, at its own number
-  free_entry : (k a : ℕ) → Has (all_free size) k a → (k ≡ 128) × (a < size) × (place (all_free size) next k a ≡ a)
-  free_entry k a h =
-      elim (cases_eq k 128) [
-        | inl same ↦
-            let e = ap (λ x. (link_at (all_free size) x).count) same ∙ ap (λ x. x.count) free_link in
-            (same, omega arith, ap (λ x. step next (link_at (all_free size) x).first a) same ∙ ap (λ x. step next x.first a) free_link ∙ step_id a (omega arith))
-        | inr other ↦
-            let e = ap (λ x. x.count) (get_or-set_other (replicate 129 no_link) 128 k whole_link no_link other ∙ link_none 129 k) in
-            absurd (omega arith)
-      ]
-
-  pub free_inside : Inside (all_free size) next size
-  free_inside k a h = let e = free_entry k a h in omega arith
-
-  pub free_apart : Apart (all_free size) next
-  free_apart m =
-      let e = free_entry m.j m.a m.one in
-      let f = free_entry m.k m.b m.other in
-      (e.0 ∙ sym f.0, sym e.2 ∙ m.meet ∙ f.2)
-
-  pub free_ends : Ends (all_free size) next
-  free_ends k a h =
-      let e = free_entry k a (omega arith) in
-      let c = ap (λ x. (link_at (all_free size) x).count) e.0 ∙ ap (λ x. x.count) free_link in
-      let l = ap (λ x. (link_at (all_free size) x).last) e.0 ∙ ap (λ x. x.last) free_link in
-      omega arith
-
-  pub free_counts : counted (all_free size) ≤ size
-  free_counts =
-      let e = counted_set (replicate 129 no_link) 128 whole_link (rw length-replicate (omega arith)) in
-      omega (arith, counted_none 129, ap (λ x. x.count) (link_none 129 128))

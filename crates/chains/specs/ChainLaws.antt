@@ -1,14 +1,13 @@
 -- That the trays of a chain bank keep the laws of a bank.
 use Rattle.std.specs.Prelude.{◌≡◌, ℕ, zero, suc, ◌<◌, ◌≤◌, List, [], ◌∷◌, length, take, refl}
-use Rattle.std.proofs.Common.{sym, ap, subst, ◌∙◌, arith, length-append, length-take}
-use Rattle.std.proofs.lemmas.List.{get_or-set_other}
+use Rattle.std.proofs.Common.{ap, arith, length-append, length-take}
 use Rattle.banks.specs.Tables.{cell_at}
 use Rattle.banks.specs.Trays.{tray_at, held_in}
 use Rattle.banks.proofs.Holding.{tray_held}
 use Rattle.chains.specs.declared.chain_bank.ChainBank.{ChainBank}
-use Rattle.chains.specs.ChainBanks.{WithoutEntry, bank_limit, bank_trays}
+use Rattle.chains.specs.ChainBanks.{bank_limit, bank_trays}
 use Rattle.chains.specs.declared.link.Link.{Link}
-use Rattle.chains.specs.Chains.{Free, chain_cells, chain_rows, chain_trays, counted, link_at, no_link, popped, step, without}
+use Rattle.chains.specs.Chains.{chain_cells, chain_rows, chain_trays, counted, step}
 
 pub chain_at_most : {C : Type 0} (cells : List C) (next : List ℕ) (from n : ℕ) → length (chain_cells cells next from n) ≤ n
 chain_at_most cells next from zero = omega arith
@@ -47,12 +46,3 @@ module _ {M : Type 0} (b : ChainBank M) where
   limits_some l =
       let f = trays_few b.cells.now b.links.next b.trays b.links.heads in
       let p = b.some (omega arith) in (p, p)
-
-  -- a place of no chain once the free chain has lost its first is one that no tray has an entry at
-  pub without_entry : (p : ℕ) → Free (without b.links.heads b.links.next 128) b.links.next p → WithoutEntry b p
-  without_entry p free k i less has is =
-      let few = b.few in
-      let apart : k ≡ 128 → ⊥ = λ e. omega arith in
-      let same : link_at (without b.links.heads b.links.next 128) k ≡ link_at b.links.heads k =
-      get_or-set_other b.links.heads 128 k (popped b.links.next (link_at b.links.heads 128)) no_link apart in
-      free k i (subst (λ h. i < h.count) (sym same) has) (ap (λ h. step b.links.next h.first i) same ∙ is)

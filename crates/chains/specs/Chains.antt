@@ -1,5 +1,6 @@
 -- Chains of places.
-use Rattle.std.specs.Prelude.{◌≡◌, ℕ, zero, suc, ◌+◌, ◌-◌, ◌<◌, min, cond, List, [], ◌∷◌, ◌++◌, take, replicate, ◌==◌, ◌≢◌, nat_le, slice_index, slice_index_or, slice_set}
+use Rattle.std.specs.Prelude.{◌≡◌, ℕ, zero, suc, ◌+◌, ◌-◌, ◌<◌, cond, List, [], ◌∷◌, ◌++◌, take, ◌==◌, ◌≢◌, slice_index, slice_index_or, slice_set}
+use Rattle.banks.specs.Serving.{serving}
 use Rattle.banks.specs.Tables.{cell_at}
 use Rattle.chains.specs.declared.link.Link.{Link}
 
@@ -8,6 +9,10 @@ no_link = record { first = 0; last = 0; count = 0 }
 
 abbrev pub link_at : List Link → ℕ → Link
 link_at heads k = slice_index_or heads k no_link
+
+-- the chains of the trays, and the free one after them
+abbrev pub with_free : List Link → Link → List Link
+with_free heads free = heads ++ free ∷ []
 
 -- the place that is i steps on from a place
 abbrev pub step : List ℕ → ℕ → ℕ → ℕ
@@ -61,6 +66,13 @@ popped next h = record { first = slice_index next h.first; last = h.last; count 
 abbrev pub without : List Link → List ℕ → ℕ → List Link
 without heads next k = slice_set heads k (popped next (link_at heads k))
 
+-- a chain with the place p at its end, and what then follows each place
+abbrev pub pushed : ℕ → Link → Link
+pushed p h = record { first = cond (h.count == 0) p h.first; last = p; count = h.count + 1 }
+
+abbrev pub pushed_next : List ℕ → ℕ → Link → List ℕ
+pushed_next next p h = cond (h.count == 0) next (slice_set next h.last p)
+
 -- chain k grows by the place p at its end, and the others stay
 pub record Grown (heads : List Link) (next : List ℕ) (after : List Link) (next' : List ℕ) (k p : ℕ) : Type 0 where
   pub kept : (j a : ℕ) → Has heads j a → place after next' j a ≡ place heads next j a
@@ -83,13 +95,13 @@ chain_rows cells next (h ∷ hs) = chain_cells cells next h.first h.count ∷ ch
 abbrev pub chain_trays : {C : Type 0} → List C → List ℕ → ℕ → List Link → List (List C)
 chain_trays cells next n heads = chain_rows cells next (take n heads)
 
--- all places free, in chain 128
-abbrev pub all_free : ℕ → List Link
-all_free size = slice_set (replicate 129 no_link) 128 (record { first = 0; last = size - 1; count = size })
+-- the chain of every place below size
+abbrev pub every_place : ℕ → Link
+every_place size = record { first = 0; last = size - 1; count = size }
 
 -- both limits of a chain bank over a table of len cells, of which 1024 serve at most; 0 where there are no trays, or more than 128
 abbrev pub chain_size : ℕ → ℕ → ℕ
-chain_size len t = cond (t == 0) 0 (cond (nat_le t 128) (min len 1024) 0)
+chain_size len t = serving len t
 
 -- how many trays that bank has: as many as were asked for, if there is a cell
 abbrev pub chain_number : ℕ → ℕ → ℕ

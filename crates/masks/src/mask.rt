@@ -31,13 +31,9 @@ impl Mask {
     pub fn remove(&mut self, k: usize)
         ensures { (j : ℕ) → j < 128 → member self.new.bits j ≡ (not (j == k) && member self.old.bits j) }
     {
-        if k >= WIDTH {
-            return;
+        if k < WIDTH {
+            self.bits &= !(1u128 << k);
         }
-        if (self.bits >> k) & 1 == 0 {
-            return;
-        }
-        self.bits ^= 1u128 << k;
     }
 
     // The least member from one number on and below another.
@@ -48,9 +44,6 @@ impl Mask {
             return None;
         }
         let first = low + (self.bits >> low).trailing_zeros() as usize;
-        if first >= high.min(low + WIDTH) {
-            return None;
-        }
-        Some(first)
+        (first < high.min(low + WIDTH)).then_some(first)
     }
 }

@@ -2,8 +2,10 @@
 use Rattle.std.proofs.Common.{◌≡◌, ℕ, zero, suc, ◌+◌, ◌-◌, ◌*◌, ◌/◌, ◌%◌, ◌<◌, ◌≤◌, ◌⊎◌, List, [], ◌∷◌, ◌++◌, length, get_or, take, set, replicate, Some, sym, refl, ap, ◌∙◌, inl, inr, append_assoc, append-nil, add-zero, mul-le-mul_right, mod-lt, suc-mul, lt_of_mul-lt-mul_right, div-add-mod', zero-add, zero-mul, add-one, arith, length-append}
 use native.Mathlib.Nat.{mod-mod, mod-add-mod}
 use Rattle.rows.specs.declared.head.Head.{Head}
-use Rattle.rows.specs.Rings.{no_head, head_at, ring, rings, counted, row_trays}
+use Rattle.rows.specs.Rings.{no_head, head_at, one_less, one_more, ring, ring_place, rings, counted, row_trays}
 use Rattle.std.proofs.lemmas.List.{length-take, get_or-take, get_or_past, take-replicate}
+use Rattle.std.proofs.lemmas.List.Sums.{sum_by-cons}
+use Rattle.std.specs.List.{sum_by}
 use Rattle.std.proofs.lemmas.Bool.{cases_lt, cases_order}
 use Rattle.rows.specs.RowLaws.{rings_length, rings_at, counted_within, held_at_most, within_front}
 use Rattle.banks.proofs.Cells.{cell_one, cell_other, cell_read, cell_same, take_set}
@@ -12,15 +14,9 @@ use Rattle.banks.specs.Trays.{tray_at, held_in, first_of, without_first}
 
 -- heads
 
-pub head_none : (n k : ℕ) → head_at (replicate n no_head) k ≡ no_head
-head_none zero k = refl
-head_none (suc n) zero = refl
-head_none (suc n) (suc k) = head_none n k
-
-pub counted_more : (hs : List Head) (i : ℕ) → i < length hs → counted (take (suc i) hs) ≡ counted (take i hs) + (head_at hs i).count
-counted_more [] i l = omega arith
-counted_more (h ∷ hs) zero l = omega arith
-counted_more (h ∷ hs) (suc i) l = let e = counted_more hs i (omega arith) in omega arith
+pub counted_sum : (hs : List Head) → sum_by (λ h. h.count) hs ≡ counted hs
+counted_sum [] = refl
+counted_sum (h ∷ hs) = sum_by-cons (λ h. h.count) h hs ∙ ap (λ n. h.count + n) (counted_sum hs)
 
 -- numbers
 
@@ -149,6 +145,14 @@ pub row_holds : {C : Type 0} (cells : List C) (size n : ℕ) (heads : List Head)
 row_holds cells size n heads k l pos fits =
     ap length (row_at cells size n heads k l) ∙ ring_length cells (k * size) size (head_at heads k).first (head_at heads k).count pos (row_fits k n size (length cells) l fits)
 
+-- the same of a tray that may not be there
+pub row_counts : {C : Type 0} (cells : List C) (size n : ℕ) (heads : List Head) (k : ℕ) → (0 < n → 0 < size) → n * size ≤ length cells → length (tray_at (row_trays cells size n heads) k) ≡ (head_at (take n heads) k).count
+row_counts cells size n heads k some fits =
+    elim (cases_lt k n) [
+      | inl l ↦ row_holds cells size n heads k l (some (omega arith)) fits ∙ ap (λ h. h.count) (sym (get_or-take n heads k no_head l))
+      | inr u ↦ ap length (row_past cells size n heads k u) ∙ ap (λ h. h.count) (sym (get_or_past (take n heads) k no_head (rw length-take (omega arith))))
+    ]
+
 pub row_held : {C : Type 0} (cells : List C) (size n : ℕ) (heads : List Head) → (0 < n → 0 < size) → n * size ≤ length cells → held_in (row_trays cells size n heads) ≡ counted (take n heads)
 row_held cells size zero heads some fits = refl
 row_held cells size (suc n) heads some fits =
@@ -166,14 +170,14 @@ row_room cells size n heads k w long l room =
     omega (arith, ap (λ j. j * size) m)
 
 pub row_put : {C : Type 0} (cells : List C) (size n : ℕ) (heads : List Head) (k : ℕ) (c : C) → k < n → n * size ≤ length cells → (head_at heads k).count < size
-    → row_trays (set cells (k * size + ((head_at heads k).first + (head_at heads k).count) % size) c) size n (set heads k (record { first = (head_at heads k).first; count = (head_at heads k).count + 1 }))
+    → row_trays (set cells (ring_place size k (head_at heads k) (head_at heads k).count) c) size n (set heads k (one_more (head_at heads k)))
     ≡ set (row_trays cells size n heads) k (tray_at (row_trays cells size n heads) k ++ (c ∷ []))
 row_put cells size n heads k c l fits room =
     let h = head_at heads k in
     let at = k * size + (h.first + h.count) % size in
     let m : (h.first + h.count) % size < size = mod-lt (h.first + h.count) (omega arith) in
     let long = row_fits k n size (length cells) l fits in
-    let new : Head = record { first = h.first; count = h.count + 1 } in
+    let new = one_more h in
     let cut : take n (set heads k new) ≡ set (take n heads) k new = take_set n heads k new in
     let step = rings_step cells (set cells at c) size 0 (take n heads) k new (omega arith)
     (λ j s. cell_other cells at j c (λ e. elim s [ inl u ↦ omega arith | inr u ↦ omega arith ])) in
@@ -184,20 +188,20 @@ row_put cells size n heads k c l fits room =
     cc
 
 pub row_take : {C : Type 0} (cells : List C) (size n : ℕ) (heads : List Head) (k : ℕ) (c : C) → k < n → n * size ≤ length cells → 0 < size → 0 < (head_at heads k).count
-    → c ≡ get_or cells (k * size + (head_at heads k).first % size) c
+    → c ≡ get_or cells (ring_place size k (head_at heads k) 0) c
     → (Some c ≡ first_of (tray_at (row_trays cells size n heads) k))
-    × (row_trays cells size n (set heads k (record { first = ((head_at heads k).first + 1) % size; count = (head_at heads k).count - 1 }))
+    × (row_trays cells size n (set heads k (one_less size (head_at heads k)))
     ≡ set (row_trays cells size n heads) k (without_first (tray_at (row_trays cells size n heads) k)))
 row_take cells size n heads k c l fits pos some read =
     let h = head_at heads k in
     let m : h.first % size < size = mod-lt h.first pos in
     let long = row_fits k n size (length cells) l fits in
-    let new : Head = record { first = (h.first + 1) % size; count = h.count - 1 } in
+    let new = one_less size h in
     let rest = ring cells (k * size) size (h.first + 1) (h.count - 1) in
     let one : h.count ≡ suc (h.count - 1) = omega arith in
     let tray : tray_at (row_trays cells size n heads) k ≡ c ∷ rest =
     row_at cells size n heads k l ∙ ap (λ j. ring cells (k * size) size h.first j) one
-    ∙ ap (λ t. t ++ rest) (cell_read cells (k * size + h.first % size) c (omega arith) read) in
+    ∙ ap (λ t. t ++ rest) (cell_read cells (k * size + h.first % size) c (omega arith) (rw add-zero at read)) in
     let cut : take n (set heads k new) ≡ set (take n heads) k new = take_set n heads k new in
     let step = rings_step cells cells size 0 (take n heads) k new pos (λ j s. refl) in
     let z : 0 + k * size ≡ k * size = zero-add (k * size) in
@@ -205,41 +209,13 @@ row_take cells size n heads k c l fits pos some read =
     let left : without_first (tray_at (row_trays cells size n heads) k) ≡ rest = ap without_first tray in
     (sym (ap first_of tray), cc)
 
--- each place of a row lies in the table
-pub row_place : (k n size len j : ℕ) → k < n → n * size ≤ len → 0 < size → k * size + j % size < len
-row_place k n size len j l fits pos =
-    let m : j % size < size = mod-lt j pos in
-    let long = row_fits k n size len l fits in
-    omega arith
-
--- a tray that holds something is there
-pub row_exists : {C : Type 0} (cells : List C) (size n : ℕ) (heads : List Head) (k : ℕ) → 0 < length (tray_at (row_trays cells size n heads) k) → k < n
-row_exists cells size n heads k some =
-    elim (cases_lt k n) [ inl l ↦ l | inr u ↦ absurd (let e = ap length (row_past cells size n heads k u) in omega arith) ]
-
--- the same two steps, at numbers that are known only by equations
-pub put_step : {C : Type 0} (cells : List C) (size n : ℕ) (heads : List Head) (k : ℕ) (c : C) → k < n → n * size ≤ length cells → (head_at heads k).count < size
-    → (place size' n' : ℕ) (heads' : List Head)
-    → place ≡ k * size + ((head_at heads k).first + (head_at heads k).count) % size → size' ≡ size → n' ≡ n
-    → heads' ≡ set heads k (record { first = (head_at heads k).first; count = (head_at heads k).count + 1 })
-    → row_trays (set cells place c) size' n' heads' ≡ set (row_trays cells size n heads) k (tray_at (row_trays cells size n heads) k ++ (c ∷ []))
-put_step cells size n heads k c l fits room place size' n' heads' ep es en eh =
-    let e : row_trays (set cells place c) size' n' heads' ≡ row_trays (set cells (k * size + ((head_at heads k).first + (head_at heads k).count) % size) c) size n (set heads k (record { first = (head_at heads k).first; count = (head_at heads k).count + 1 })) =
-    ap (λ p. row_trays (set cells p c) size' n' heads') ep ∙ rw (es, en, eh) in
-    e ∙ row_put cells size n heads k c l fits room
-
-pub take_step : {C : Type 0} (cells : List C) (size n : ℕ) (heads : List Head) (k : ℕ) (c : C) → k < n → n * size ≤ length cells → 0 < size → 0 < (head_at heads k).count
-    → (place size' n' : ℕ) (heads' : List Head)
-    → place ≡ k * size + (head_at heads k).first % size → c ≡ get_or cells place c → size' ≡ size → n' ≡ n
-    → heads' ≡ set heads k (record { first = ((head_at heads k).first + 1) % size; count = (head_at heads k).count - 1 })
-    → (Some c ≡ first_of (tray_at (row_trays cells size n heads) k))
-    × (row_trays cells size' n' heads' ≡ set (row_trays cells size n heads) k (without_first (tray_at (row_trays cells size n heads) k)))
-take_step cells size n heads k c l fits pos some place size' n' heads' ep read es en eh =
-    let t = row_take cells size n heads k c l fits pos some (rw ep at read) in
-    (t.0, rw (es, en, eh) t.1)
-
-pub same_product : {a b x y : ℕ} → a ≡ x → b ≡ y → a * b ≡ x * y
-same_product {a} {b} {x} {y} e f = rw (e, f)
+-- a tray that holds something is there, and its head counts a cell
+pub row_exists : {C : Type 0} (cells : List C) (size n : ℕ) (heads : List Head) (k : ℕ) → (0 < n → 0 < size) → n * size ≤ length cells → 0 < length (tray_at (row_trays cells size n heads) k) → (k < n) × (0 < (head_at heads k).count)
+row_exists cells size n heads k some fits holds =
+    elim (cases_lt k n) [
+      | inl l ↦ let h = row_holds cells size n heads k l (some (omega arith)) fits in (l, omega arith)
+      | inr u ↦ absurd (let e = ap length (row_past cells size n heads k u) in omega arith)
+    ]
 
 pub rings_none : {C : Type 0} (cells : List C) (size base n : ℕ) → rings cells size base (replicate n no_head) ≡ replicate n []
 rings_none cells size base zero = refl
@@ -252,7 +228,7 @@ row_none cells size n m heads few en eh =
 
 -- the place after the last cell of a ring that has room is the place of no entry of any ring
 pub row_free : (heads : List Head) (size k : ℕ) → (head_at heads k).count < size → (i j : ℕ) → j < (head_at heads i).count
-    → k * size + ((head_at heads k).first + (head_at heads k).count) % size ≡ i * size + ((head_at heads i).first + j) % size → ⊥
+    → ring_place size k (head_at heads k) (head_at heads k).count ≡ ring_place size i (head_at heads i) j → ⊥
 row_free heads size k room i j lt e =
     let a : ((head_at heads k).first + (head_at heads k).count) % size < size = mod-lt _ (omega arith) in
     let b : ((head_at heads i).first + j) % size < size = mod-lt _ (omega arith) in

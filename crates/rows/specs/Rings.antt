@@ -1,5 +1,5 @@
 -- Trays that are rings, each in a row of its own, side by side in one table of cells.
-use Rattle.std.specs.Prelude.{ℕ, zero, suc, ◌+◌, ◌/◌, ◌%◌, min, cond, List, [], ◌∷◌, ◌++◌, take, ◌==◌, nat_le, slice_index_or}
+use Rattle.std.specs.Prelude.{ℕ, zero, suc, ◌+◌, ◌-◌, ◌*◌, ◌/◌, ◌%◌, min, cond, List, [], ◌∷◌, ◌++◌, take, ◌==◌, nat_le, slice_index_or}
 use Rattle.banks.specs.Tables.{cell_at}
 use Rattle.rows.specs.declared.head.Head.{Head}
 
@@ -9,6 +9,17 @@ no_head = record { first = 0; count = 0 }
 
 abbrev pub head_at : List Head → ℕ → Head
 head_at heads k = slice_index_or heads k no_head
+
+-- a head after one cell more at the end, and after the first cell has left
+abbrev pub one_more : Head → Head
+one_more h = record { first = h.first; count = h.count + 1 }
+
+abbrev pub one_less : ℕ → Head → Head
+one_less limit h = record { first = (h.first + 1) % limit; count = h.count - 1 }
+
+-- where entry i of a head lies in a table of rows of `limit` cells, in row k
+abbrev pub ring_place : ℕ → ℕ → Head → ℕ → ℕ
+ring_place limit k h i = k * limit + (h.first + i) % limit
 
 -- n cells of the ring that has the places base, .. base + size - 1, from its place `from` on
 abbrev pub ring : {C : Type 0} → List C → ℕ → ℕ → ℕ → ℕ → List C

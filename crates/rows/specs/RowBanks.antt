@@ -1,9 +1,9 @@
 -- What a row bank means.
-use Rattle.std.specs.Prelude.{◌≡◌, ℕ, ◌+◌, ◌-◌, ◌*◌, ◌%◌, ◌<◌, List, Option, MatchOption, ◌≢◌, slice_set}
+use Rattle.std.specs.Prelude.{◌≡◌, ℕ, ◌*◌, ◌<◌, List, Option, MatchOption, ◌≢◌, slice_set}
 use Rattle.banks.specs.declared.cell.Cell.{Cell}
 use Rattle.rows.specs.declared.head.Head.{Head}
 use Rattle.rows.specs.declared.row_bank.RowBank.{RowBank}
-use Rattle.rows.specs.Rings.{head_at, row_trays}
+use Rattle.rows.specs.Rings.{head_at, one_less, one_more, ring_place, row_trays}
 
 abbrev pub bank_cells : {M : Type 0} → RowBank M → List (Cell M)
 bank_cells b = b.cells.now
@@ -19,20 +19,14 @@ bank_total b = b.rows.trays * b.rows.limit
 
 -- where entry i of tray k lies, and the place after the last
 abbrev pub entry_place : {M : Type 0} → RowBank M → ℕ → ℕ → ℕ
-entry_place b k i = k * b.rows.limit + ((head_at b.rows.heads k).first + i) % b.rows.limit
+entry_place b k i = ring_place b.rows.limit k (head_at b.rows.heads k) i
 
 abbrev pub next_place : {M : Type 0} → RowBank M → ℕ → ℕ
 next_place b k = entry_place b k (head_at b.rows.heads k).count
 
--- the head of tray k after a put and after a take
+-- the head of tray k
 abbrev pub head_of : {M : Type 0} → RowBank M → ℕ → Head
 head_of b k = head_at b.rows.heads k
-
-abbrev pub one_more : Head → Head
-one_more h = record { first = h.first; count = h.count + 1 }
-
-abbrev pub one_less : ℕ → Head → Head
-one_less limit h = record { first = (h.first + 1) % limit; count = h.count - 1 }
 
 -- an accepted put of the cell c into tray k writes one cell alone, where no tray has an entry, and that tray's head
 pub record Fills {M : Type 0} (before after : RowBank M) (k : ℕ) (c : Cell M) : Type 0 where

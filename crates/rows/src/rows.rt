@@ -1,29 +1,16 @@
 // Where the cells of each tray lie in a row bank: its numbers, and no cell.
-ghost use Rattle.std.specs.Prelude.{◌≡◌, ℕ, ◌+◌, ◌-◌, ◌*◌, ◌%◌, ◌<◌, ◌≤◌, length, take, set, replicate, ◌≢◌};
-ghost use Rattle.rows.specs.Rings.{no_head, head_at, counted, row_limit, row_number};
+ghost use Rattle.std.specs.Prelude.{◌≡◌, ℕ, ◌+◌, ◌*◌, ◌%◌, ◌<◌, ◌≤◌, length, take, replicate, slice_set, sum_by, ◌≢◌};
+ghost use Rattle.rows.specs.Rings.{counted, head_at, no_head, one_less, one_more, ring_place, row_limit, row_number};
 
 use crate::head::Head;
-
-const MAX_TRAYS: usize = 128;
-
-const MAX_CELLS: usize = 1024;
-
-// How many cells each tray has, of so many trays over a table of `len` cells: 0 where there can be no tray.
-fn limit_of(len: usize, trays: usize) -> usize
-    ensures value { result ≡ row_limit len trays }
-    ensures fits { 0 < result → (0 < trays) × (trays ≤ 128) × (result ≤ 1024) × (trays * result ≤ len) }
-{
-    if trays == 0 || trays > MAX_TRAYS {
-        return 0;
-    }
-    len.min(MAX_CELLS) / trays
-}
+use banks::serving::{MAX_TRAYS, serving_cells};
 
 // The heads of the trays, of which the first `trays` are used, and how many cells a tray may hold. The ghost fields say
-// what holds of every such value: few trays, a limit that leaves room, and no count above it.
-#[derive(Clone, Copy)]
+// what holds of every such value: few trays, a limit that leaves room, and no count above it. The heads are an array
+// beside the lent table, since a bank uses no heap.
+#[derive(Clone, Copy, Debug, PartialEq, Eq)]
 pub struct Rows {
-    heads: [Head; 128],
+    heads: [Head; MAX_TRAYS],
     trays: usize,
     limit: usize,
     ghost whole: { length heads ≡ 128 },
@@ -33,20 +20,16 @@ pub struct Rows {
     ghost within: { ((k : ℕ) → (head_at heads k).count ≤ limit) },
 }
 
-impl Rows {
-    pub(crate) fn new(trays: usize, limit: usize) -> Rows
-        requires { (trays ≤ 128) × ((limit ≤ 1024) × ((0 < trays → 0 < limit))) }
-        ensures trays { result.trays ≡ trays }
-        ensures limit { result.limit ≡ limit }
-        ensures heads { result.heads ≡ replicate 128 no_head }
-    {
-        Rows {
-            heads: [Head { first: 0, count: 0 }; 128],
-            trays,
-            limit,
-        }
-    }
+// How many cells so few heads count together. The sum is a function of its own, since its bound is not proved where the
+// heads are a part of an array.
+fn total_of(heads: &[Head]) -> usize
+    requires { length heads.now ≤ 128 }
+    ensures { result ≡ sum_by (λ head. head.count) heads.now }
+{
+    heads.iter().map(|head| head.count as usize).sum()
+}
 
+impl Rows {
     // Over a table of `len` cells: empty, and with no tray where there can be none.
     pub(crate) fn over(len: usize, trays: usize) -> Rows
         ensures trays { result.trays ≡ row_number len trays }
@@ -54,11 +37,15 @@ impl Rows {
         ensures heads { result.heads ≡ replicate 128 no_head }
         ensures fits { result.trays * result.limit ≤ len }
     {
-        let limit = limit_of(len, trays);
-        if limit == 0 {
-            return Rows::new(0, 0);
+        let (trays, limit) = match serving_cells(len, trays).checked_div(trays) {
+            None | Some(0) => (0, 0),
+            Some(limit) => (trays, limit),
+        };
+        Rows {
+            heads: [Head::default(); MAX_TRAYS],
+            trays,
+            limit,
         }
-        Rows::new(trays, limit)
     }
 
     pub(crate) fn trays(&self) -> usize
@@ -73,68 +60,44 @@ impl Rows {
         self.limit
     }
 
+    // None where there is no such tray.
     pub(crate) fn count(&self, tray: usize) -> usize
-        requires { tray < 128 }
-        ensures { result ≡ (head_at self.now.heads tray).count }
+        ensures { result ≡ (head_at (take self.now.trays self.now.heads) tray).count }
     {
-        self.heads[tray].count as usize
+        let heads = &self.heads[..self.trays];
+        heads.get(tray).map_or(0, |head| head.count as usize)
     }
 
     pub(crate) fn total(&self) -> usize
         ensures { result ≡ counted (take self.now.trays self.now.heads) }
     {
-        let mut sum = 0;
-        for i in 0..self.trays {
-            sum += self.heads[i].count as usize;
-        }
-        sum
+        total_of(&self.heads[..self.trays])
     }
 
-    // The place of the first cell of a tray.
-    pub(crate) fn start(&self, tray: usize) -> usize
-        requires { tray < self.now.trays }
-        ensures place { result ≡ tray * self.now.limit + (head_at self.now.heads tray).first % self.now.limit }
-        ensures inside { result < self.now.trays * self.now.limit }
-    {
-        tray * self.limit + self.heads[tray].first as usize % self.limit
-    }
-
-    // The place after the last cell of a tray that is not full: no entry of any tray lies there.
-    pub(crate) fn end(&self, tray: usize) -> usize
-        requires tray_lt_trays { tray < self.now.trays }
-        requires tray_bound { (head_at self.now.heads tray).count < self.now.limit }
-        ensures place { result ≡ tray * self.now.limit + ((head_at self.now.heads tray).first + (head_at self.now.heads tray).count) % self.now.limit }
-        ensures inside { result < self.now.trays * self.now.limit }
-        ensures free { (k j : ℕ) → j < (head_at self.now.heads k).count → result ≢ k * self.now.limit + ((head_at self.now.heads k).first + j) % self.now.limit }
-    {
-        let head = self.heads[tray];
-        tray * self.limit + (head.first as usize + head.count as usize) % self.limit
-    }
-
-    // One cell more at the end of a tray that has room.
-    pub(crate) fn grow(&mut self, tray: usize)
-        requires tray_lt_trays { tray < self.old.trays }
-        requires tray_bound { (head_at self.old.heads tray).count < self.old.limit }
+    // One cell more at the end of a tray that has room. Answers its place in the table, at which no tray had an entry.
+    pub(crate) fn push(&mut self, tray: usize) -> usize
+        requires is_tray { tray < self.old.trays }
+        requires has_room { (head_at self.old.heads tray).count < self.old.limit }
+        ensures place { result ≡ ring_place self.old.limit tray (head_at self.old.heads tray) (head_at self.old.heads tray).count }
+        ensures inside { result < self.old.trays * self.old.limit }
+        ensures free { (k j : ℕ) → j < (head_at self.old.heads k).count → result ≢ ring_place self.old.limit k (head_at self.old.heads k) j }
         ensures trays { self.new.trays ≡ self.old.trays }
         ensures limit { self.new.limit ≡ self.old.limit }
-        ensures heads { self.new.heads ≡ set self.old.heads tray (record { first = (head_at self.old.heads tray).first; count = (head_at self.old.heads tray).count + 1 }) }
+        ensures heads { self.new.heads ≡ slice_set self.old.heads tray (one_more (head_at self.old.heads tray)) }
     {
-        self.heads[tray].count += 1;
+        tray * self.limit + self.heads[tray].push(self.limit)
     }
 
-    // The first cell of a tray that has one leaves it.
-    pub(crate) fn shrink(&mut self, tray: usize)
-        requires tray_lt_trays { tray < self.old.trays }
-        requires count_nonzero { 0 < (head_at self.old.heads tray).count }
+    // The first cell of a tray that has one leaves it. Answers the place in the table where it lies.
+    pub(crate) fn pop(&mut self, tray: usize) -> usize
+        requires is_tray { tray < self.old.trays }
+        requires has_cell { 0 < (head_at self.old.heads tray).count }
+        ensures place { result ≡ ring_place self.old.limit tray (head_at self.old.heads tray) 0 }
+        ensures inside { result < self.old.trays * self.old.limit }
         ensures trays { self.new.trays ≡ self.old.trays }
         ensures limit { self.new.limit ≡ self.old.limit }
-        ensures heads { self.new.heads ≡ set self.old.heads tray (record { first = ((head_at self.old.heads tray).first + 1) % self.old.limit; count = (head_at self.old.heads tray).count - 1 }) }
+        ensures heads { self.new.heads ≡ slice_set self.old.heads tray (one_less self.old.limit (head_at self.old.heads tray)) }
     {
-        let head = self.heads[tray];
-        let first = (head.first as usize + 1) % self.limit;
-        self.heads[tray] = Head {
-            first: first as u16,
-            count: head.count - 1,
-        };
+        tray * self.limit + self.heads[tray].pop(self.limit)
     }
 }

@@ -1,40 +1,17 @@
 // Making a chain bank, and its calls. None but the making takes longer for a longer table or a fuller tray.
-ghost use Rattle.std.specs.Prelude.{◌≡◌, ◌<◌, ◌≤◌, [], length, replicate, if◌then◌else◌, Ok, nat_eq};
+ghost use Rattle.std.specs.Prelude.{◌≡◌, [], length, replicate, Ok};
 ghost use Rattle.banks.specs.Trays.{Puts, Takes};
 ghost use Rattle.chains.specs.ChainBanks.{FillsSomeFreeCell, bank_cells, bank_limit, bank_trays};
-ghost use Rattle.chains.specs.Chains.{all_free, chain_number, chain_size};
+ghost use Rattle.chains.specs.Chains.{chain_number, chain_size};
 ghost use Rattle.chains.specs.ChainLaws.{limits_some, number_few, each_within, held_within};
 
 use super::ChainBank;
 use crate::links::Links;
 use banks::bank::{Bank, Trays};
 use banks::cell::Cell;
+use banks::serving::serving_cells;
 use messages::message::Message;
 use messages::refusal::Refusal;
-
-// The chain of the cells that hold no entry.
-const FREE: usize = 128;
-
-// How many cells of a table of `len` cells serve so many trays: none where there can be no tray.
-fn size_of(len: usize, trays: usize) -> usize
-    ensures value { result ≡ chain_size len trays }
-    ensures fits { (result ≤ len) × (result ≤ 1024) × (0 < result → trays ≤ 128) }
-{
-    if trays == 0 || trays > 128 {
-        return 0;
-    }
-    len.min(1024)
-}
-
-// As many trays as were asked for, if there is a cell.
-fn number_of(size: usize, trays: usize) -> usize
-    requires { 0 < size → trays ≤ 128 }
-    ensures value { result ≡ (if nat_eq size 0 then 0 else trays) }
-    ensures few { result ≤ 128 }
-    ensures some { 0 < result → 0 < size }
-{
-    if size == 0 { 0 } else { trays }
-}
 
 impl<'a, M: Message> ChainBank<'a, M> {
     // An empty bank over a table, which stays as it is. It has no trays where `trays` is not 1 to 128, or where the table
@@ -45,13 +22,11 @@ impl<'a, M: Message> ChainBank<'a, M> {
         ensures limit { bank_limit result ≡ chain_size (length cells.old) trays }
         ensures empty { bank_trays result ≡ replicate (chain_number (length cells.old) trays) [] }
     {
-        let size = size_of(cells.len(), trays);
-        let number = number_of(size, trays);
-        let links = Links::new(size);
+        let size = serving_cells(cells.len(), trays);
         ChainBank {
             cells,
-            links,
-            trays: number,
+            links: Links::new(size),
+            trays: if size == 0 { 0 } else { trays },
         }
     }
 }
@@ -96,7 +71,7 @@ impl<'a, M: Message> Bank for ChainBank<'a, M> {
     }
 
     fn total(&self) -> usize {
-        self.links.size() - self.links.count(FREE)
+        self.links.size() - self.links.free_count()
     }
 
     // An accepted put writes one cell, some cell that held no entry.
@@ -108,10 +83,10 @@ impl<'a, M: Message> Bank for ChainBank<'a, M> {
         if tray >= self.trays {
             return Err(Refusal::NoSuchTray);
         }
-        if self.links.count(FREE) == 0 {
+        if self.links.free_count() == 0 {
             return Err(Refusal::Full);
         }
-        let place = self.links.shift(FREE, tray);
+        let place = self.links.fill(tray);
         self.cells[place] = Cell { receipt, message };
         Ok(())
     }
@@ -125,9 +100,7 @@ impl<'a, M: Message> Bank for ChainBank<'a, M> {
         if self.count(tray) == 0 {
             return None;
         }
-        let place = self.links.first(tray);
-        let cell = self.cells[place];
-        let _ = self.links.shift(tray, FREE);
-        Some(cell)
+        let place = self.links.release(tray);
+        Some(self.cells[place])
     }
 }

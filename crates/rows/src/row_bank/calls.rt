@@ -60,11 +60,7 @@ impl<'a, M: Message> Bank for RowBank<'a, M> {
     }
 
     fn count(&self, tray: usize) -> usize {
-        if tray < self.rows.trays() {
-            self.rows.count(tray)
-        } else {
-            0
-        }
+        self.rows.count(tray)
     }
 
     fn total(&self) -> usize {
@@ -83,9 +79,8 @@ impl<'a, M: Message> Bank for RowBank<'a, M> {
         if self.rows.count(tray) >= self.rows.limit() {
             return Err(Refusal::Full);
         }
-        let place = self.rows.end(tray);
+        let place = self.rows.push(tray);
         self.cells[place] = Cell { receipt, message };
-        self.rows.grow(tray);
         Ok(())
     }
 
@@ -98,9 +93,7 @@ impl<'a, M: Message> Bank for RowBank<'a, M> {
         if self.count(tray) == 0 {
             return None;
         }
-        let place = self.rows.start(tray);
-        let cell = self.cells[place];
-        self.rows.shrink(tray);
-        Some(cell)
+        let place = self.rows.pop(tray);
+        Some(self.cells[place])
     }
 }

@@ -1,64 +1,47 @@
-use Rattle.std.proofs.Common.{◌<◌, length, Some, sym, refl, ap, ◌∙◌, arith, rules}
+use Rattle.std.proofs.Common.{◌≡◌, get_or, take, Some, sym, refl, ap, ◌∙◌, arith}
 use Rattle.std.proofs.lemmas.List.{nil_from_length}
 use Rattle.banks.proofs.Cells.{take_none}
-use Rattle.chains.specs.Chains.{chain_trays}
-use Rattle.chains.proofs.Moves.{trays_exists, trays_holds, counts_take, take_step}
+use Rattle.chains.specs.Chains.{chain_trays, counted, link_at, popped}
+use Rattle.chains.proofs.Moves.{counted_front, kept_rows, pop_rows, trays_exists}
+use Rattle.chains.proofs.Shifts.{inside_trays}
 use Rattle.chains.proofs.chain_bank.calls.ChainBankBank.take.Goals as goal
 
-pub returns-then-count-eq0 : goal.returns-then-count-eq0
-returns-then-count-eq0 g c =
+pub returns-then-count-eq0-clause-takes : goal.returns-then-count-eq0-clause-takes
+returns-then-count-eq0-clause-takes g c =
     let b = c.args.self.now in
     let ts = chain_trays b.cells.now b.links.next b.trays b.links.heads in
     let e = take_none ts c.args.tray (nil_from_length _ (omega arith)) in
-    record { takes = record { answer = e.0; left = e.1; limits = (refl, refl) }; table = refl; lent = refl }
+    record { answer = e.0; left = e.1; limits = (refl, refl) }
 
-pub first-place-requires : goal.first-place-requires
-first-place-requires g c =
+pub release-place-requires : goal.release-place-requires
+release-place-requires g c =
     let b = c.args.self.now in
-    let l = trays_exists b.cells.now b.links.next b.trays b.links.heads c.args.tray (omega arith) in
-    omega arith
-
-in_table : (g : _) → (c : goal.After-first-place g) → c.first-place.result < length c.args.self.now.cells.now
-in_table g c =
-    let b = c.args.self.now in
-    let l = trays_exists b.cells.now b.links.next b.trays b.links.heads c.args.tray (omega arith) in
-    let h = trays_holds b.cells.now b.links.next b.trays b.links.heads c.args.tray b.links.size l b.links.inside b.fits in
-    let i = b.links.inside c.args.tray 0 (omega arith) in
-    let f = b.fits in
-    omega arith
-
-pub offset_bounds-self-place : goal.offset_bounds-self-place
-offset_bounds-self-place g c = let l = in_table g c in search rules
-
-pub bounds-self-place : goal.bounds-self-place
-bounds-self-place g c = in_table g c
-
-pub shift-requires : goal.shift-requires
-shift-requires g c =
-    let b = c.args.self.now in
-    let l = trays_exists b.cells.now b.links.next b.trays b.links.heads c.args.tray (omega arith) in
-    let h = trays_holds b.cells.now b.links.next b.trays b.links.heads c.args.tray b.links.size l b.links.inside b.fits in
-    (omega arith, (omega arith, omega arith))
+    let h = trays_exists b.cells.now b.links.next b.trays b.links.heads c.args.tray b.links.size (inside_trays b.links) b.fits (omega arith) in
+    record { is_tray = (let f = b.few in omega (arith, h.0)); has_place = h.1 }
 
 pub invariant_of-self : goal.invariant_of-self
 invariant_of-self g c =
     let b = c.args.self.now in
-    let s = c.shift.ensures in
-    let l = trays_exists b.cells.now b.links.next b.trays b.links.heads c.args.tray (omega arith) in
-    let h = trays_holds b.cells.now b.links.next b.trays b.links.heads c.args.tray b.links.size l b.links.inside b.fits in
+    let s = c.release-place.ensures in
+    let h = trays_exists b.cells.now b.links.next b.trays b.links.heads c.args.tray b.links.size (inside_trays b.links) b.fits (omega arith) in
+    let sum = counted_front b.links.heads b.trays c.args.tray (popped b.links.next (link_at b.links.heads c.args.tray)) h.0 (omega arith) in
+    let e = ap (λ hs. counted (take b.trays hs)) s.heads in
     let fits = b.fits in
-    let z = s.size in
     let all = b.all in
-    let sum = counts_take b.links.heads c.shift.new.self.heads b.links.next b.trays c.args.tray 128 l b.few (omega arith) (omega arith) (omega arith) s.heads s.grown.more in
+    let some = h.1 in
     record { few = b.few; fits = omega arith; some = λ u. (let p = b.some u in omega arith); all = omega arith }
 
-pub returns : goal.returns
-returns g c =
+pub returns-clause-takes : goal.returns-clause-takes
+returns-clause-takes g c =
     let b = c.args.self.now in
-    let l = trays_exists b.cells.now b.links.next b.trays b.links.heads c.args.tray (omega arith) in
-    let h = trays_holds b.cells.now b.links.next b.trays b.links.heads c.args.tray b.links.size l b.links.inside b.fits in
-    let i = b.links.inside c.args.tray 0 (omega arith) in
-    let f = b.fits in
-    let s = c.shift.ensures in
-    let t = take_step b.cells.now b.links.next c.shift.new.self.next b.links.heads c.shift.new.self.heads b.trays c.args.tray 128 _ c.index-self-place.result c.first-place.result s.grown l b.few (omega arith) (omega arith, omega arith) (omega arith) (omega arith) c.first-place.ensures c.index-self-place.is in
-    record { takes = record { answer = ap Some (sym c.index-self-place.is) ∙ t.0; left = t.1; limits = (s.size, s.size) }; table = refl; lent = refl }
+    let s = c.release-place.ensures in
+    let h = trays_exists b.cells.now b.links.next b.trays b.links.heads c.args.tray b.links.size (inside_trays b.links) b.fits (omega arith) in
+    let c₁ = c.index-self-place.result in
+    let read : c₁ ≡ get_or b.cells.now (link_at b.links.heads c.args.tray).first c₁ =
+    c.index-self-place.is ∙ ap (λ p. get_or b.cells.now p c₁) s.first in
+    let t = pop_rows b.cells.now b.links.next b.links.heads b.trays c.args.tray c₁ h.0 h.1 (omega (arith, s.first, s.inside, b.fits)) read in
+    record {
+      answer = ap Some (sym c.index-self-place.is) ∙ t.0;
+      left = kept_rows b.cells.now b.links.next c.release-place.new.self.next c.release-place.new.self.heads b.trays (omega arith) s.kept ∙ ap (chain_trays b.cells.now b.links.next b.trays) s.heads ∙ t.1;
+      limits = (s.size, s.size);
+    }

@@ -1,39 +1,30 @@
-use Rattle.std.proofs.Common.{Some, sym, refl, ap, ◌∙◌, arith}
+use Rattle.std.proofs.Common.{◌≡◌, get_or, Some, sym, refl, ap, ◌∙◌, arith}
 use Rattle.std.proofs.lemmas.List.{nil_from_length}
 use Rattle.banks.proofs.Cells.{take_none}
-use Rattle.rows.proofs.Turns.{row_holds, row_exists, take_step, same_product}
+use Rattle.rows.proofs.Turns.{row_exists, row_take}
+use Rattle.rows.specs.RowBanks.{entry_place}
 use Rattle.rows.specs.Rings.{row_trays}
 use Rattle.rows.proofs.row_bank.calls.RowBankBank.take.Goals as goal
 
-pub returns-then-count-eq0 : goal.returns-then-count-eq0
-returns-then-count-eq0 g c =
+pub returns-then-count-eq0-clause-takes : goal.returns-then-count-eq0-clause-takes
+returns-then-count-eq0-clause-takes g c =
     let b = c.args.self.now in
     let ts = row_trays b.cells.now b.rows.limit b.rows.trays b.rows.heads in
     let e = take_none ts c.args.tray (nil_from_length _ (omega arith)) in
-    record { takes = record { answer = e.0; left = e.1; limits = (refl, refl) }; moves = record { table = refl; heads = refl }; lent = refl }
+    record { answer = e.0; left = e.1; limits = (refl, refl) }
 
-pub start-place-requires : goal.start-place-requires
-start-place-requires g c =
+pub pop-place-requires : goal.pop-place-requires
+pop-place-requires g c =
     let b = c.args.self.now in
-    row_exists b.cells.now b.rows.limit b.rows.trays b.rows.heads c.args.tray (omega arith)
+    let h = row_exists b.cells.now b.rows.limit b.rows.trays b.rows.heads c.args.tray b.rows.some b.fits (omega arith) in
+    record { is_tray = h.0; has_cell = h.1 }
 
-pub shrink-requires : goal.shrink-requires
-shrink-requires g c =
+pub returns-clause-takes : goal.returns-clause-takes
+returns-clause-takes g c =
     let b = c.args.self.now in
-    let l = row_exists b.cells.now b.rows.limit b.rows.trays b.rows.heads c.args.tray (omega arith) in
-    let h = row_holds b.cells.now b.rows.limit b.rows.trays b.rows.heads c.args.tray l (b.rows.some (omega arith)) b.fits in
-    record { tray_lt_trays = l; count_nonzero = omega arith }
-
-pub returns : goal.returns
-returns g c =
-    let b = c.args.self.now in
-    let l = row_exists b.cells.now b.rows.limit b.rows.trays b.rows.heads c.args.tray (omega arith) in
-    let pos = b.rows.some (omega arith) in
-    let h = row_holds b.cells.now b.rows.limit b.rows.trays b.rows.heads c.args.tray l pos b.fits in
-    let t = take_step b.cells.now b.rows.limit b.rows.trays b.rows.heads c.args.tray c.index-self-place.result l b.fits pos (omega arith) _ _ _ _
-    c.start-place.ensures.place c.index-self-place.is c.shrink.ensures.limit c.shrink.ensures.trays c.shrink.ensures.heads in
-    record {
-      takes = record { answer = ap Some (sym c.index-self-place.is) ∙ t.0; left = t.1; limits = (c.shrink.ensures.limit, same_product c.shrink.ensures.trays c.shrink.ensures.limit) };
-      moves = record { table = refl; heads = c.shrink.ensures.heads };
-      lent = refl;
-    }
+    let e = c.pop-place.ensures in
+    let h = row_exists b.cells.now b.rows.limit b.rows.trays b.rows.heads c.args.tray b.rows.some b.fits (omega arith) in
+    let read : c.index-self-place.result ≡ get_or b.cells.now (entry_place b c.args.tray 0) c.index-self-place.result =
+    c.index-self-place.is ∙ ap (λ p. get_or b.cells.now p c.index-self-place.result) e.place in
+    let t = row_take b.cells.now b.rows.limit b.rows.trays b.rows.heads c.args.tray c.index-self-place.result h.0 b.fits (b.rows.some (omega arith)) h.1 read in
+    record { answer = ap Some (sym c.index-self-place.is) ∙ t.0; left = rw (e.limit, e.trays, e.heads) t.1; limits = (e.limit, rw (e.trays, e.limit) refl) }

@@ -1,0 +1,54 @@
+use Rattle.std.proofs.Common.{◌≡◌, ◌∙◌, refl, subst, arith, rules, length-set}
+use Rattle.chains.specs.Chains.{Free, Grown}
+use Rattle.chains.proofs.Shifts.{fill_shifted, free_front, grown_front}
+use Rattle.chains.proofs.links.Links.fill.Goals as goal
+
+pub pop-place-requires-clause-first_inside : goal.pop-place-requires-clause-first_inside
+pop-place-requires-clause-first_inside c =
+    let s = c.args.self.now in
+    let t = fill_shifted s c.args.tray c.requires.is_tray c.requires.has_free _ _ _ _ refl refl refl refl in
+    omega (arith, t.below, s.small, s.long)
+
+pub push-requires-clause-has_room : goal.push-requires-clause-has_room
+push-requires-clause-has_room c =
+    let s = c.args.self.now in
+    let t = fill_shifted s c.args.tray c.requires.is_tray c.requires.has_free _ _ _ _ refl refl refl refl in
+    omega (arith, t.room, s.small)
+
+pub push-requires-clause-last_inside : goal.push-requires-clause-last_inside
+push-requires-clause-last_inside c =
+    (fill_shifted c.args.self.now c.args.tray c.requires.is_tray c.requires.has_free _ _ _ _ refl refl refl refl).last
+
+pub invariant_of-self : goal.invariant_of-self
+invariant_of-self c =
+    let s = c.args.self.now in
+    let t = fill_shifted s c.args.tray c.requires.is_tray c.requires.has_free _ _ _ _ c.pop-place.ensures.place c.push.ensures.chain c.pop-place.ensures.chain c.push.ensures.next in
+    record {
+      whole = length-set s.heads c.args.tray _ ∙ s.whole;
+      long = (let e = c.push.auto.next in let n = s.long in omega arith);
+      small = s.small;
+      counts = t.counts;
+      inside = t.inside;
+      apart = t.apart;
+      ends = t.ends;
+    }
+
+pub returns-clause-inside : goal.returns-clause-inside
+returns-clause-inside c =
+    let s = c.args.self.now in
+    let t = fill_shifted s c.args.tray c.requires.is_tray c.requires.has_free _ _ _ _ c.pop-place.ensures.place c.push.ensures.chain c.pop-place.ensures.chain c.push.ensures.next in
+    omega (arith, t.below)
+
+pub returns-clause-free : goal.returns-clause-free
+returns-clause-free c =
+    let s = c.args.self.now in
+    let moved : c.pop-place.result ≡ c.from.result = search rules in
+    let t = fill_shifted s c.args.tray c.requires.is_tray c.requires.has_free _ _ _ _ c.pop-place.ensures.place c.push.ensures.chain c.pop-place.ensures.chain c.push.ensures.next in
+    subst (Free s.heads s.next) moved (free_front s.heads s.next _ 128 _ s.whole t.free)
+
+pub returns-clause-grown : goal.returns-clause-grown
+returns-clause-grown c =
+    let s = c.args.self.now in
+    let moved : c.pop-place.result ≡ c.from.result = search rules in
+    let t = fill_shifted s c.args.tray c.requires.is_tray c.requires.has_free _ _ _ _ c.pop-place.ensures.place c.push.ensures.chain c.pop-place.ensures.chain c.push.ensures.next in
+    subst (Grown s.heads s.next _ _ c.args.tray) moved (grown_front s.heads _ s.next _ _ _ 128 c.args.tray _ s.whole (length-set s.heads c.args.tray _ ∙ s.whole) c.requires.is_tray t.grown)
