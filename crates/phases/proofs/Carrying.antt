@@ -1,5 +1,6 @@
 -- A call through a phase, from the dispatcher's own call.
-use Rattle.std.proofs.Common.{◌≡◌, ℕ, List, Result}
+use Rattle.std.proofs.Common.{◌≡◌, ℕ, List, Ok, Err, Result, sym, refl, ap, arith}
+use Rattle.std.specs.Result.{IsErrAnd, MatchResult}
 use Rattle.messages.specs.declared.refusal.Refusal.{Refusal}
 use Rattle.banks.specs.declared.bank.Trays
 use Rattle.messages.specs.declared.message.Message
@@ -12,6 +13,23 @@ use Rattle.dispatcher.specs.Answers.{answered}
 use Rattle.dispatcher.specs.Steps.{Fails}
 use Rattle.dispatcher.specs.WholeRuns.{LawfulCall}
 use Rattle.phases.specs.Calls.{Called}
+
+pub ok_not_err : {X Y : Type 0} (x : X) (y : Y) → ◌≡◌ {A = Result X Y} (Ok x) (Err y) → ⊥
+ok_not_err x y e = let z : ◌≡◌ {A = ℕ} 0 1 = cc in omega arith
+
+-- what the exit of a `?` returns is the error
+pub err_is : {X E : Type 0} (r : Result X E) (e : E) → IsErrAnd r (λ x. x ≡ e) → r ≡ Err e
+err_is (Ok x) e h = absurd h
+err_is (Err x) e h = ap (λ y. Err y) h
+
+-- what came out of `map_err` tells what went in: a value as it was, and an error of which this was made
+pub mapped_ok : {X E : Type 0} (D : Type 0) (r : Result X E) (x : X) → MatchResult r (λ y. ◌≡◌ {A = Result X D} (Ok x) (Ok y)) (λ _. ⊥) → r ≡ Ok x
+mapped_ok D (Ok y) x h = cc
+mapped_ok D (Err e) x h = absurd h
+
+pub mapped_err : {X E D : Type 0} (P : E → Type 0) (Q : E → Type 0) (r : Result X E) (d : D) → ((e : E) → Q e → P e) → MatchResult r (λ y. ◌≡◌ {A = Result X D} (Err d) (Ok y)) Q → (e : E) × (r ≡ Err e) × P e
+mapped_err P Q (Ok y) d f h = absurd (ok_not_err y d (sym h))
+mapped_err P Q (Err e) d f h = (e, refl, f e h)
 
 module _ {B M X : Type 0} {bg : Trays.Ghosts B M} {mg : Message.Ghosts M} {ig : Timed.Ghosts M} (trays : B → List (List (Cell M))) (each all : B → ℕ) (interval : M → ℕ) where
   pub own_call : (z : ℕ) (before after : Dispatcher B M bg mg ig) (c : Call M) (accepted : X → Event M) (r : Result X Refusal) → before.cycle ≡ z → LawfulCall trays each all interval before after c (answered c accepted r) → (Fails r → after ≡ before) → Called trays each all interval z before after c accepted r

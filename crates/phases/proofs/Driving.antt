@@ -27,14 +27,12 @@ use Rattle.phases.specs.declared.phase.Report.{Report}
 use Rattle.phases.specs.declared.refused.Refused.{Refused}
 use Rattle.phases.specs.declared.round.Round.{Round}
 use Rattle.phases.specs.declared.stop.Held.TheVariants.{InOutput, InReport}
+use Rattle.phases.proofs.Carrying.{ok_not_err}
 use Rattle.phases.proofs.Leaving.{asked_waiting}
 use Rattle.phases.proofs.Through.{count_more, led_on, same_cycle, shown_cycle, stays_on}
 
 pub same_err : {X Y : Type 0} (x y : Y) → ◌≡◌ {A = Result X Y} (Err x) (Err y) → x ≡ y
 same_err x y e = cc
-
-pub ok_not_err : {X Y : Type 0} (x : X) (y : Y) → ◌≡◌ {A = Result X Y} (Ok x) (Err y) → ⊥
-ok_not_err x y e = let z : ◌≡◌ {A = ℕ} 0 1 = cc in omega arith
 
 none_not_some : {X : Type 0} (o : Option X) (x : X) → o ≡ None → o ≡ Some x → ⊥
 none_not_some o x e f = let z : ◌≡◌ {A = ℕ} 0 1 = cc in omega arith

@@ -17,7 +17,8 @@ use Rattle.phases.specs.Rounds.{DrivenRound, Drives, DrivesRound, MadeAll, after
 use Rattle.phases.specs.declared.phase.Report.{Report}
 use Rattle.phases.specs.declared.round.Round.{Round}
 use Rattle.phases.specs.declared.stop.Held.{Held}
-use Rattle.phases.proofs.Driving.{ok_not_err, same_err}
+use Rattle.phases.proofs.Carrying.{ok_not_err}
+use Rattle.phases.proofs.Driving.{same_err}
 use Rattle.phases.proofs.Through.{led_on, same_cycle}
 
 none_to_make : {M : Type 0} (p q : Report) (rounds : List (Round M)) → length rounds ≤ 0 → q ≡ p → Ok q ≡ not_driven p rounds

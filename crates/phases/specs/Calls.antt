@@ -37,6 +37,11 @@ abbrev pub left_report : Report → Option Refusal → Result Detect (Refused Re
 left_report p None = Ok (record { cycle = p.cycle })
 left_report p (Some k) = Err (record { phase = p; refusal = k })
 
+-- the answer of leaving a report phase that may be left, or of one that may not
+abbrev pub leaving : Report → Result (Unit {0}) Refusal → Result Detect (Refused Report)
+leaving p (Ok x) = left_report p None
+leaving p (Err k) = left_report p (Some k)
+
 -- how a turn through an output phase went: the dispatcher's own answer in it
 abbrev pub turn_answer : Result NextCycle (Refused Output) → Result ℕ Refusal
 turn_answer (Ok n) = Ok n.late

@@ -63,25 +63,16 @@ where
 {
     let waiting = dispatcher.ask().waiting;
     name_times(&report, dispatcher, waiting);
-    match report.detect(dispatcher) {
-        Ok(detect) => {
-            post_all(&detect, dispatcher, round.messages);
-            let output = react_to(detect, dispatcher, round);
-            match output.turn(dispatcher, round.cycle) {
-                Ok(next) => {
-                    let NextCycle { late: _, report } = next;
-                    Ok(report)
-                }
-                Err(refused) => Err(Held::InOutput(refused)),
-            }
-        }
-        Err(refused) => Err(Held::InReport(refused)),
-    }
+    let detect = report.detect(dispatcher)?;
+    post_all(&detect, dispatcher, round.messages);
+    let output = react_to(detect, dispatcher, round);
+    let NextCycle { late: _, report } = output.turn(dispatcher, round.cycle)?;
+    Ok(report)
 }
 
 // Drives a cycle for each round, until one stops.
 pub fn drive<B: Bank>(
-    report: Report,
+    mut report: Report,
     dispatcher: &mut Dispatcher<B>,
     rounds: &[Round<B::Item>],
 ) -> Result<Report, Stop>
@@ -89,12 +80,8 @@ where
     B::Item: Timed,
     ensures { Drives B.Trays.trays B.Trays.tray_limit B.Trays.total_limit B.Item.Timed.interval report dispatcher.old dispatcher.new rounds.now result }
 {
-    let mut report = report;
     for (round, inputs) in rounds.iter().enumerate() {
-        match drive_round(report, dispatcher, *inputs) {
-            Ok(next) => report = next,
-            Err(held) => return Err(Stop { round, held }),
-        }
+        report = drive_round(report, dispatcher, *inputs).map_err(|held| Stop { round, held })?;
     }
     Ok(report)
 }

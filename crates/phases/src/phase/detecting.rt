@@ -6,7 +6,7 @@ ghost use Rattle.dispatcher.specs.declared.call.Call.TheVariants.{Post};
 ghost use Rattle.dispatcher.specs.declared.event.Event.TheVariants.{Posted};
 ghost use Rattle.phases.specs.Calls.{Called};
 
-use crate::phase::{Detect, React};
+use crate::phase::{Detect, React, in_cycle};
 use banks::bank::Bank;
 use dispatcher::dispatcher::Dispatcher;
 use dispatcher::entry::Slip;
@@ -25,9 +25,7 @@ impl Detect {
         ensures call { Called B.Trays.trays B.Trays.tray_limit B.Trays.total_limit B.Item.Timed.interval self.now.cycle dispatcher.old dispatcher.new (Post message) (λ p. Posted (entered p message)) result }
         ensures room { dispatcher.old.cycle ≡ self.now.cycle → TakesWhenEmpty B.Trays.trays B.Trays.tray_limit B.Trays.total_limit B.Item.Timed.interval dispatcher.old message result }
     {
-        if dispatcher.cycle() != self.cycle {
-            return Err(Refusal::OutOfPhase);
-        }
+        in_cycle(dispatcher, self.cycle)?;
         dispatcher.post(message)
     }
 
