@@ -1,5 +1,6 @@
 -- The calls dispatch and name.
-use Rattle.std.proofs.Common.{◌≡◌, ℕ, ◌+◌, ◌-◌, ◌%◌, ◌<◌, ◌≤◌, true, not, List, [], ◌∷◌, length, set, Some, None, filter, sym, refl, ap, ◌∙◌, subst, arith}
+use Rattle.std.proofs.Common.{◌≡◌, ℕ, ◌+◌, ◌-◌, ◌%◌, ◌<◌, ◌≤◌, true, not, List, [], ◌∷◌, length, set, Some, None, Option, filter, sym, refl, ap, ◌∙◌, subst, arith}
+use Rattle.std.specs.Prelude.{IfSome, option_map}
 use Rattle.std.specs.List.{AllByRecursion as All}
 use Rattle.std.proofs.ByRecursion.{All-weaker}
 use Rattle.std.proofs.lemmas.List.{length-set, length-map, nil_from_length, set-get_or}
@@ -136,3 +137,22 @@ module _ {M : Type 0} (b : Terms M) (v : View M) (m : State M) (s : Shows b v m)
       waits : (xs : List (Entry M)) → Some c ≡ first_of (cells xs) → (e : Entry M) × (es : List (Entry M)) × (xs ≡ e ∷ es) × (cell_of e ≡ c)
       waits [] k = absurd (let z : ◌≡◌ {A = ℕ} 0 1 = cc in omega arith)
       waits (x ∷ xs) k = (x, xs, refl, cc)
+
+  -- whatever a take from the tray of the present cycle gave
+  pub names_any : (r : Option (Entry M)) (ts : List (List (Cell M))) (each all : ℕ) → option_map cell_of r ≡ first_of (tray_at v.trays (v.cycle % (v.span + 1))) → ts ≡ set v.trays (v.cycle % (v.span + 1)) (without_first (tray_at v.trays (v.cycle % (v.span + 1)))) → each ≡ v.tray_limit → all ≡ v.total_limit → IfSome r (λ e. e.deadline ≡ v.cycle)
+      → ((step b m Name).0 ≡ Named r) × Shows b (record { interval = v.interval; trays = ts; tray_limit = each; total_limit = all; is_open = v.is_open; begun = v.begun; span = v.span; cycle = v.cycle; next = v.next; accepted = v.accepted; dispatched = v.dispatched; late = v.late }) (step b m Name).1
+  names_any None ts each all ec et ee ea due = names_none ts each all ec et ee ea
+  names_any (Some e) ts each all ec et ee ea due =
+      let x = names (cell_of e) ts each all ec et ee ea in
+      (x.0 ∙ ap (λ y. Named (Some y)) (sym (same_entry e (cell_of e) v.cycle refl due)), x.1)
+
+  -- whatever a take from the first tray ahead that holds a cell gave
+  pub dispatches_any : (r : Option (Entry M)) (f : ℕ) (ts : List (List (Cell M))) (each all dn : ℕ) → FirstHeld v.trays v.span v.cycle (Some f) → option_map cell_of r ≡ first_of (tray_ahead v.trays v.span v.cycle f)
+      → ts ≡ set v.trays ((v.cycle + f) % (v.span + 1)) (without_first (tray_ahead v.trays v.span v.cycle f)) → each ≡ v.tray_limit → all ≡ v.total_limit → (v.dispatched ≤ limit → dn ≡ v.dispatched + 1) → IfSome r (λ e. e.deadline ≡ v.cycle + f)
+      → ((step b m Dispatch).0 ≡ Dispatched r) × Shows b (record { interval = v.interval; trays = ts; tray_limit = each; total_limit = all; is_open = v.is_open; begun = v.begun; span = v.span; cycle = v.cycle; next = v.next; accepted = v.accepted; dispatched = dn; late = v.late }) (step b m Dispatch).1
+  dispatches_any None f ts each all dn h ec et ee ea ed due =
+      let q = some_of (tray_ahead v.trays v.span v.cycle f) h.2 in
+      absurd (let e = ec ∙ ap first_of q.2 in let z : ◌≡◌ {A = ℕ} 0 1 = cc in omega arith)
+  dispatches_any (Some e) f ts each all dn h ec et ee ea ed due =
+      let x = dispatches f (cell_of e) ts each all dn h ec et ee ea ed in
+      (x.0 ∙ ap (λ y. Dispatched (Some y)) (sym (same_entry e (cell_of e) (v.cycle + f) refl due)), x.1)

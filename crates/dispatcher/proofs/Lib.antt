@@ -9,6 +9,7 @@ mod Lost
 mod Lying
 mod Moves
 mod Once
+mod Opened
 mod Orders
 mod Places
 mod Placed

@@ -16,7 +16,7 @@ use Rattle.dispatcher.specs.Shown.{Shows}
 use Rattle.dispatcher.specs.Steps.{Simulates}
 use Rattle.dispatcher.specs.Theorems.{WarningsLeast}
 use Rattle.dispatcher.specs.Views.{View, view}
-use Rattle.dispatcher.specs.WholeRuns.{Accounted, Accounts, AccountsNext, CarriesOn, Led, Obeyed, Obeys, lying_in}
+use Rattle.dispatcher.specs.WholeRuns.{Accounted, Accounts, AccountsNext, CarriesOn, LawfulCall, Led, Obeyed, Obeys, lying_in}
 use Rattle.dispatcher.proofs.Calls.{is_of_calls}
 use Rattle.dispatcher.proofs.Lying.{trays_lying}
 use Rattle.dispatcher.proofs.Once.{each_once}
@@ -125,16 +125,16 @@ module _ {M : Type 0} (b : Terms M) where
   pub both_length : (v : View M) (cs : List (Call M)) (h : History M) → Both b v cs h → length h ≡ length cs
   both_length v cs h x = sym (length-map h call_of) ∙ ap length (follows_calls b v cs h x.follows)
 
-module _ {B M : Type 0} (trays : B → List (List (Cell M))) (each all : B → ℕ) (interval : M → ℕ) (b : Terms M) where
+module _ {B M : Type 0} {t : Trays.Ghosts B M} {m : Message.Ghosts M} {i : Timed.Ghosts M} (b : Terms M) where
   -- the calls so far led to the dispatcher d, and every one of them to a dispatcher with which all was accounted for
-  pub record Ran {t : Trays.Ghosts B M} {m : Message.Ghosts M} {i : Timed.Ghosts M} (d : Dispatcher B M t m i) (calls : List (Call M)) (h : History M) : Type 0 where
-    pub both : Both b (view trays each all interval d) calls h
-    pub accounted : (k : ℕ) → k ≤ length calls → Accounted trays each all interval t m i b calls h k
+  pub record Ran (d : Dispatcher B M t m i) (calls : List (Call M)) (h : History M) : Type 0 where
+    pub both : Both b (view d) calls h
+    pub accounted : (k : ℕ) → k ≤ length calls → Accounted t m i b calls h k
 
   -- where all calls are among the first k
-  accounted_now : {t : Trays.Ghosts B M} {m : Message.Ghosts M} {i : Timed.Ghosts M} (d : Dispatcher B M t m i) (cs : List (Call M)) (h : History M) (k : ℕ) → length cs ≤ k → Both b (view trays each all interval d) cs h → Accounted trays each all interval t m i b cs h k
+  accounted_now : (d : Dispatcher B M t m i) (cs : List (Call M)) (h : History M) (k : ℕ) → length cs ≤ k → Both b (view d) cs h → Accounted t m i b cs h k
   accounted_now d cs h k l x =
-      let v = view trays each all interval d in
+      let v = view d in
       let f = x.follows in
       let n = both_length b v cs h x in
       let e = sym (take_all k cs l) in
@@ -142,33 +142,33 @@ module _ {B M : Type 0} (trays : B → List (List (Cell M))) (each all : B → �
       record {
         dispatcher = d;
         led = subst (λ y. Led b v y (take k h)) e (subst (Led b v cs) g f);
-        law = subst (λ y. Obeys y d.late (trays d.bank)) g (follows_obeys b v cs h f);
+        law = subst (λ y. Obeys y v.late v.trays) g (follows_obeys b v cs h f);
         accounts = subst (λ y. Accounts y v) g (follows_accounts b v cs h f);
       }
 
   -- what the first k calls led to, where more have come since
-  accounted_still : {t : Trays.Ghosts B M} {m : Message.Ghosts M} {i : Timed.Ghosts M} (cs : List (Call M)) (h : History M) (c : Call M) (a : Event M) (k : ℕ) → k ≤ length cs → k ≤ length h → Accounted trays each all interval t m i b cs h k → Accounted trays each all interval t m i b (cs ++ c ∷ []) (h ++ a ∷ []) k
+  accounted_still : (cs : List (Call M)) (h : History M) (c : Call M) (a : Event M) (k : ℕ) → k ≤ length cs → k ≤ length h → Accounted t m i b cs h k → Accounted t m i b (cs ++ c ∷ []) (h ++ a ∷ []) k
   accounted_still cs h c a k l n x =
       let d = x.dispatcher in
-      let v = view trays each all interval d in
+      let v = view d in
       let e = sym (take-append-le k cs (c ∷ []) l) in
       let g = sym (take-append-le k h (a ∷ []) n) in
       record {
         dispatcher = d;
         led = subst (λ y. Led b v y (take k (h ++ a ∷ []))) e (subst (Led b v (take k cs)) g x.led);
-        law = subst (λ y. Obeys y d.late (trays d.bank)) g x.law;
+        law = subst (λ y. Obeys y v.late v.trays) g x.law;
         accounts = subst (λ y. Accounts y v) g x.accounts;
       }
 
-  pub ran_none : {t : Trays.Ghosts B M} {m : Message.Ghosts M} {i : Timed.Ghosts M} (d : Dispatcher B M t m i) (h : History M) → Shows b (view trays each all interval d) start → h ≡ [] → Ran d [] h
+  pub ran_none : (d : Dispatcher B M t m i) (h : History M) → Shows b (view d) start → h ≡ [] → Ran d [] h
   ran_none d h s e =
-      let x = both_none b (view trays each all interval d) h s e in
+      let x = both_none b (view d) h s e in
       record { both = x; accounted = λ k l. accounted_now d [] h k (omega arith) x }
 
-  pub ran_more : {t : Trays.Ghosts B M} {m : Message.Ghosts M} {i : Timed.Ghosts M} (d d' : Dispatcher B M t m i) (cs : List (Call M)) (h : History M) (c : Call M) (a : Event M) → Ran d cs h → Simulates (view trays each all interval d) (view trays each all interval d') c a → Ran d' (cs ++ c ∷ []) (h ++ a ∷ [])
+  pub ran_more : (d d' : Dispatcher B M t m i) (cs : List (Call M)) (h : History M) (c : Call M) (a : Event M) → Ran d cs h → Simulates (view d) (view d') c a → Ran d' (cs ++ c ∷ []) (h ++ a ∷ [])
   ran_more d d' cs h c a x k =
-      let y = both_more b (view trays each all interval d) (view trays each all interval d') cs h c a x.both k in
-      let n = both_length b (view trays each all interval d) cs h x.both in
+      let y = both_more b (view d) (view d') cs h c a x.both k in
+      let n = both_length b (view d) cs h x.both in
       let p = length_push cs c in
       record {
         both = y;
@@ -180,9 +180,13 @@ module _ {B M : Type 0} (trays : B → List (List (Cell M))) (each all : B → �
       }
 
 -- what goes as the machine goes carries the law on
-pub carries_on : {M : Type 0} (v w : View M) (c : Call M) (a : Event M) → Simulates v w c a → CarriesOn v w c a
+carries_on : {M : Type 0} (v w : View M) (c : Call M) (a : Event M) → Simulates v w c a → CarriesOn v w c a
 carries_on v w c a k b cs h f =
     let g = follows_more b v w cs h c a f k in (g, follows_obeys b w (cs ++ c ∷ []) (h ++ a ∷ []) g)
 
-pub accounts_on : {M : Type 0} (v w : View M) (c : Call M) (a : Event M) → Simulates v w c a → AccountsNext v w c a
+accounts_on : {M : Type 0} (v w : View M) (c : Call M) (a : Event M) → Simulates v w c a → AccountsNext v w c a
 accounts_on v w c a k b cs h f = follows_accounts b w (cs ++ c ∷ []) (h ++ a ∷ []) (follows_more b v w cs h c a f k)
+
+pub lawful : {B M : Type 0} {t : Trays.Ghosts B M} {m : Message.Ghosts M} {i : Timed.Ghosts M} (before after : Dispatcher B M t m i) (c : Call M) (a : Event M) → Simulates (view before) (view after) c a → LawfulCall before after c a
+lawful before after c a k =
+    record { steps = k; law = carries_on (view before) (view after) c a k; account = accounts_on (view before) (view after) c a k }

@@ -6,6 +6,6 @@ use Rattle.messages.specs.declared.message.Message
 use Rattle.messages.specs.declared.message.Timed
 use Rattle.dispatcher.specs.declared.dispatcher.Dispatcher.{Dispatcher}
 
-pub same_bank : {B M : Type 0} {t : Trays.Ghosts B M} {m : Message.Ghosts M} {i : Timed.Ghosts M} (d : Dispatcher B M t m i) (x : B) (short : d.span ≤ 127) (early : d.cycle ≤ 4000000000) (few : d.receipt ≤ 4000000000) → x ≡ d.bank → record { bank = x; «open» = d.«open»; begun = d.begun; span = d.span; cycle = d.cycle; receipt = d.receipt; accepted = d.accepted; dispatched = d.dispatched; late = d.late; short = short; early = early; few = few } ≡ d
-same_bank d x short early few e =
-    λ i. record { bank = e i; «open» = d.«open»; begun = d.begun; span = d.span; cycle = d.cycle; receipt = d.receipt; accepted = d.accepted; dispatched = d.dispatched; late = d.late; short = le_prop short d.short i; early = le_prop early d.early i; few = le_prop few d.few i }
+pub same_bank : {B M : Type 0} {t : Trays.Ghosts B M} {m : Message.Ghosts M} {i : Timed.Ghosts M} (d : Dispatcher B M t m i) (x : B) (early : d.cycle ≤ 4000000000) (few : d.receipt ≤ 4000000000) → x ≡ d.bank → record { bank = x; ring = d.ring; begun = d.begun; cycle = d.cycle; receipt = d.receipt; accepted = d.accepted; dispatched = d.dispatched; late = d.late; early = early; few = few } ≡ d
+same_bank d x early few e =
+    λ i. record { bank = e i; ring = d.ring; begun = d.begun; cycle = d.cycle; receipt = d.receipt; accepted = d.accepted; dispatched = d.dispatched; late = d.late; early = le_prop early d.early i; few = le_prop few d.few i }

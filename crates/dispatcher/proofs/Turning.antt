@@ -1,15 +1,15 @@
 -- The calls turn and question.
-use Rattle.std.proofs.Common.{◌≡◌, ℕ, ◌+◌, ◌-◌, ◌%◌, ◌<◌, ◌≤◌, true, false, not, eqb, ltb, List, [], ◌∷◌, ◌++◌, length, None, count_by, filter, sym, refl, ap, ◌∙◌, subst, arith}
+use Rattle.std.proofs.Common.{◌≡◌, ℕ, ◌+◌, ◌-◌, ◌%◌, ◌<◌, ◌≤◌, true, false, not, eqb, ltb, List, [], ◌∷◌, ◌++◌, length, None, count_by, filter, sym, refl, ap, ◌∙◌, subst, ⊎_elim, arith}
 use Rattle.std.proofs.lemmas.List.Filters.{length-filter_both}
 use Rattle.std.proofs.lemmas.List.Sums.{length-filter, count_by-le-length}
 use Rattle.std.proofs.lemmas.List.{length-map, nil_from_length}
-use Rattle.std.proofs.lemmas.Bool.{eq-eqb, ne_eqb, le-ltb, lt-ltb, true≢false}
+use Rattle.std.proofs.lemmas.Bool.{cases_Bool, cond-false, cond-true, eq-eqb, ne_eqb, le-ltb, lt-ltb, true≢false}
 use Rattle.banks.specs.Trays.{tray_at}
 use Rattle.dispatcher.specs.Machine.{Terms, State, due_at, limit, step, is_empty}
 use Rattle.dispatcher.specs.declared.call.Call.TheVariants.{Ask, Begin, Turn}
 use Rattle.dispatcher.specs.declared.event.Event.TheVariants.{Asked, Begun, Refused, Turned}
 use Rattle.messages.specs.declared.refusal.Refusal.TheVariants.{CyclesUsedUp, LateWaiting, NotNextCycle, OutOfPhase, Shut}
-use Rattle.dispatcher.specs.Views.{View}
+use Rattle.dispatcher.specs.Views.{View, waiting_in}
 use Rattle.dispatcher.specs.Shown.{Shows, cell_of}
 use Rattle.dispatcher.proofs.Keeps.{running_turn}
 use Rattle.dispatcher.proofs.Calling.{accept, refuse, skip, here}
@@ -127,3 +127,25 @@ module _ {M : Type 0} (b : Terms M) (v : View M) (m : State M) (s : Shows b v m)
           };
         },
       )
+
+module _ {M : Type 0} (b : Terms M) (v : View M) (m : State M) (s : Shows b v m) where
+  asks_shut : v.is_open ≡ false → (p w : ℕ) → (v.accepted ≤ limit → p ≡ v.accepted - v.dispatched - v.late) → w ≡ 0
+      → ((step b m Ask).0 ≡ Asked (record { cycle = v.cycle; accepted = v.accepted; dispatched = v.dispatched; late = v.late; pending = p; waiting = w })) × Shows b v (step b m Ask).1
+  asks_shut o p w ep ew =
+      let i = s.agrees.shut o in
+      let none = i.accepted in
+      let ip : length m.pending ≡ p = let e = ep (omega arith) in let l = ap length i.none_pending in omega arith in
+      let iw : length m.waiting ≡ w = let l = ap length i.none_waiting in omega arith in (
+        ap (λ (x : State M). Asked (record { cycle = x.cycle; accepted = x.accepted; dispatched = x.dispatched; late = x.late; pending = length m.pending; waiting = length m.waiting })) s.numbers
+            ∙ (λ i. Asked (record { cycle = v.cycle; accepted = v.accepted; dispatched = v.dispatched; late = v.late; pending = ip i; waiting = iw i })),
+        s,
+      )
+
+  -- open or not
+  pub asks_any : (p w : ℕ) → (v.accepted ≤ limit → p ≡ v.accepted - v.dispatched - v.late) → w ≡ waiting_in v
+      → ((step b m Ask).0 ≡ Asked (record { cycle = v.cycle; accepted = v.accepted; dispatched = v.dispatched; late = v.late; pending = p; waiting = w })) × Shows b v (step b m Ask).1
+  asks_any p w ep ew =
+      ⊎_elim
+      (λ (o : v.is_open ≡ true). asks b v m s o p w ep (ew ∙ cond-true v.is_open _ 0 o))
+      (λ (o : v.is_open ≡ false). asks_shut o p w ep (ew ∙ cond-false v.is_open _ 0 o))
+      (cases_Bool v.is_open)

@@ -1,9 +1,8 @@
 -- What the dispatcher's calls answer and leave, in the machine's terms.
-use Rattle.std.specs.Prelude.{◌≡◌, ℕ, ◌+◌, ◌-◌, ◌<◌, ◌≤◌, true, List, length, Ok, Err, Option, Result, nat_lt}
+use Rattle.std.specs.Prelude.{◌≡◌, ℕ, ◌+◌, ◌-◌, ◌<◌, ◌≤◌, true, length, Ok, Err, Option, Result, nat_lt}
 use Rattle.banks.specs.declared.bank.Trays
 use Rattle.messages.specs.declared.message.Message
 use Rattle.messages.specs.declared.message.Timed
-use Rattle.banks.specs.declared.cell.Cell.{Cell}
 use Rattle.banks.specs.Trays.{held_in}
 use Rattle.messages.specs.declared.refusal.Refusal.{Refusal}
 use Rattle.dispatcher.specs.declared.dispatcher.Dispatcher.{Dispatcher}
@@ -20,25 +19,27 @@ Fails (Err k) = Unit {0}
 abbrev pub Simulates : {M : Type 0} → View M → View M → Call M → Event M → Type 0
 Simulates {M} v w c a = (b : Terms M) (m : State M) → Shows b v m → ((step b m c).0 ≡ a) × Shows b w (step b m c).1
 
-module _ {B M : Type 0} (trays : B → List (List (Cell M))) (each all : B → ℕ) (interval : M → ℕ) where
+module _ {B M : Type 0} (t : Trays.Ghosts B M) (i : Timed.Ghosts M) where
+  -- what a dispatcher over the bank is made with
   abbrev pub terms : B → Terms M
-  terms b = record { interval = interval; span = length (trays b) - 1; tray_limit = each b; total_limit = all b; holds = nat_lt 0 (held_in (trays b)) }
+  terms b = record { interval = i.interval; span = length (t.trays b) - 1; tray_limit = t.tray_limit b; total_limit = t.total_limit b; holds = nat_lt 0 (held_in (t.trays b)) }
 
+module _ {B M : Type 0} {t : Trays.Ghosts B M} {m : Message.Ghosts M} {i : Timed.Ghosts M} where
   -- a new dispatcher shows the start of the machine
-  abbrev pub Starts : {t : Trays.Ghosts B M} {m : Message.Ghosts M} {i : Timed.Ghosts M} → B → Dispatcher B M t m i → Type 0
-  Starts b d = Shows (terms b) (view trays each all interval d) start
+  abbrev pub Starts : B → Dispatcher B M t m i → Type 0
+  Starts b d = Shows (terms t i b) (view d) start
 
   -- the first of the cycles ahead of an open dispatcher that has more entries due by it than c in each cycle can serve
-  abbrev pub Foresees : {t : Trays.Ghosts B M} {m : Message.Ghosts M} {i : Timed.Ghosts M} → Dispatcher B M t m i → ℕ → Option Warning → Type 0
-  Foresees d c r = (b : Terms M) (m : State M) → Shows b (view trays each all interval d) m → d.«open» ≡ true → first_over c d.cycle m.pending 1 d.span ≡ r
+  abbrev pub Foresees : Dispatcher B M t m i → ℕ → Option Warning → Type 0
+  Foresees d c r = (b : Terms M) (s : State M) → Shows b (view d) s → (view d).is_open ≡ true → first_over c (view d).cycle s.pending 1 (view d).span ≡ r
 
   -- whatever state of the machine the dispatcher showed, the event is the machine's at that state, and the dispatcher shows
   -- the machine's next state
-  abbrev pub Steps : {t : Trays.Ghosts B M} {m : Message.Ghosts M} {i : Timed.Ghosts M} → Dispatcher B M t m i → Dispatcher B M t m i → Call M → Event M → Type 0
-  Steps before after c a = Simulates (view trays each all interval before) (view trays each all interval after) c a
+  abbrev pub Steps : Dispatcher B M t m i → Dispatcher B M t m i → Call M → Event M → Type 0
+  Steps before after c a = Simulates (view before) (view after) c a
 
   -- an open dispatcher whose bank is empty accepts each post of interval 1 to N, the number of trays less one, while
   -- receipts last
-  abbrev pub TakesWhenEmpty : {t : Trays.Ghosts B M} {m : Message.Ghosts M} {i : Timed.Ghosts M} → Dispatcher B M t m i → M → Result Slip Refusal → Type 0
+  abbrev pub TakesWhenEmpty : Dispatcher B M t m i → M → Result Slip Refusal → Type 0
   TakesWhenEmpty d x r =
-      (b : Terms M) (m : State M) → Shows b (view trays each all interval d) m → d.«open» ≡ true → held_in (trays d.bank) ≡ 0 → 0 < interval x → interval x ≤ length (trays d.bank) - 1 → d.receipt < limit → r ≡ Ok (record { receipt = d.receipt; deadline = d.cycle + interval x })
+      (b : Terms M) (s : State M) → Shows b (view d) s → (view d).is_open ≡ true → held_in (view d).trays ≡ 0 → 0 < i.interval x → i.interval x ≤ length (view d).trays - 1 → (view d).next < limit → r ≡ Ok (record { receipt = (view d).next; deadline = (view d).cycle + i.interval x })

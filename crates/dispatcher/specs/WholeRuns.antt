@@ -69,44 +69,43 @@ pub record Obeyed {M : Type 0} (h : History M) (k : ℕ) : Type 0 where
   pub trays : List (List (Cell M))
   pub law : Obeys (take k h) late trays
 
-module _ {B M : Type 0} (trays : B → List (List (Cell M))) where
-  -- these calls, made on a new dispatcher, left the dispatcher d and happened as h says: at the start, after each call, and
-  -- at the end, with the late count and the trays that d has
-  pub record WholeRun {t : Trays.Ghosts B M} {m : Message.Ghosts M} {i : Timed.Ghosts M} (d : Dispatcher B M t m i) (calls : List (Call M)) (h : History M) : Type 0 where
-    pub of_calls : map call_of h ≡ calls
-    pub after_each : (k : ℕ) → k ≤ length calls → Obeyed h k
-    pub law : Obeys h d.late (trays d.bank)
-
-  -- a call of a dispatcher carries the law on
-  abbrev pub ObeysOn : {t : Trays.Ghosts B M} {m : Message.Ghosts M} {i : Timed.Ghosts M} → (B → ℕ) → (B → ℕ) → (M → ℕ) → Dispatcher B M t m i → Dispatcher B M t m i → Call M → Event M → Type 0
-  ObeysOn each all interval before after c a =
-      CarriesOn (view trays each all interval before) (view trays each all interval after) c a
-
 -- one call more: whatever calls led to v, what has happened with this call is accounted for at w
 abbrev pub AccountsNext : {M : Type 0} → View M → View M → Call M → Event M → Type 0
 AccountsNext {M} v w c a = (b : Terms M) (calls : List (Call M)) (h : History M) → Led b v calls h → Accounts (h ++ a ∷ []) w
 
-module _ {B M : Type 0} (trays : B → List (List (Cell M))) (each all : B → ℕ) (interval : M → ℕ) where
-  -- a dispatcher, made with the terms b, to which the first k calls led: all that had happened obeyed, and was accounted for
-  pub record Accounted (t : Trays.Ghosts B M) (m : Message.Ghosts M) (i : Timed.Ghosts M) (b : Terms M) (calls : List (Call M)) (h : History M) (k : ℕ) : Type 0 where
-    pub dispatcher : Dispatcher B M t m i
-    pub led : Led b (view trays each all interval dispatcher) (take k calls) (take k h)
-    pub law : Obeys (take k h) dispatcher.late (trays dispatcher.bank)
-    pub accounts : Accounts (take k h) (view trays each all interval dispatcher)
+module _ {B M : Type 0} {t : Trays.Ghosts B M} {m : Message.Ghosts M} {i : Timed.Ghosts M} where
+  -- these calls, made on a new dispatcher, left the dispatcher d and happened as h says: at the start, after each call, and
+  -- at the end, with the late count and the trays that d has
+  pub record WholeRun (d : Dispatcher B M t m i) (calls : List (Call M)) (h : History M) : Type 0 where
+    pub of_calls : map call_of h ≡ calls
+    pub after_each : (k : ℕ) → k ≤ length calls → Obeyed h k
+    pub law : Obeys h (view d).late (view d).trays
 
-  -- these calls, made on a new dispatcher over the bank, led to the dispatcher d: of each call the answer that the machine
-  -- gives, and all of it accounted for at the start, after each call, and at the end
-  pub record AccountedRun {t : Trays.Ghosts B M} {m : Message.Ghosts M} {i : Timed.Ghosts M} (bank : B) (d : Dispatcher B M t m i) (calls : List (Call M)) (h : History M) : Type 0 where
-    pub led : Led (terms trays each all interval bank) (view trays each all interval d) calls h
-    pub after_each : (k : ℕ) → k ≤ length calls → Accounted t m i (terms trays each all interval bank) calls h k
-    pub accounts : Accounts h (view trays each all interval d)
+  -- a call of a dispatcher carries the law on
+  abbrev pub ObeysOn : Dispatcher B M t m i → Dispatcher B M t m i → Call M → Event M → Type 0
+  ObeysOn before after c a = CarriesOn (view before) (view after) c a
 
   -- a call of a dispatcher carries the account on
-  abbrev pub AccountsOn : {t : Trays.Ghosts B M} {m : Message.Ghosts M} {i : Timed.Ghosts M} → Dispatcher B M t m i → Dispatcher B M t m i → Call M → Event M → Type 0
-  AccountsOn before after c a = AccountsNext (view trays each all interval before) (view trays each all interval after) c a
+  abbrev pub AccountsOn : Dispatcher B M t m i → Dispatcher B M t m i → Call M → Event M → Type 0
+  AccountsOn before after c a = AccountsNext (view before) (view after) c a
 
   -- what every call of a dispatcher keeps to: it goes as the machine goes, and it carries the law and the account on
-  pub record LawfulCall {t : Trays.Ghosts B M} {m : Message.Ghosts M} {i : Timed.Ghosts M} (before after : Dispatcher B M t m i) (c : Call M) (a : Event M) : Type 0 where
-    pub steps : Steps trays each all interval before after c a
-    pub law : ObeysOn trays each all interval before after c a
+  pub record LawfulCall (before after : Dispatcher B M t m i) (c : Call M) (a : Event M) : Type 0 where
+    pub steps : Steps before after c a
+    pub law : ObeysOn before after c a
     pub account : AccountsOn before after c a
+
+module _ {B M : Type 0} (t : Trays.Ghosts B M) (m : Message.Ghosts M) (i : Timed.Ghosts M) where
+  -- a dispatcher, made with the terms b, to which the first k calls led: all that had happened obeyed, and was accounted for
+  pub record Accounted (b : Terms M) (calls : List (Call M)) (h : History M) (k : ℕ) : Type 0 where
+    pub dispatcher : Dispatcher B M t m i
+    pub led : Led b (view dispatcher) (take k calls) (take k h)
+    pub law : Obeys (take k h) (view dispatcher).late (view dispatcher).trays
+    pub accounts : Accounts (take k h) (view dispatcher)
+
+-- these calls, made on a new dispatcher over the bank, led to the dispatcher d: of each call the answer that the machine
+-- gives, and all of it accounted for at the start, after each call, and at the end
+pub record AccountedRun {B M : Type 0} {t : Trays.Ghosts B M} {m : Message.Ghosts M} {i : Timed.Ghosts M} (bank : B) (d : Dispatcher B M t m i) (calls : List (Call M)) (h : History M) : Type 0 where
+  pub led : Led (terms t i bank) (view d) calls h
+  pub after_each : (k : ℕ) → k ≤ length calls → Accounted t m i (terms t i bank) calls h k
+  pub accounts : Accounts h (view d)

@@ -1,6 +1,7 @@
 // What a dispatcher holds.
 ghost use Rattle.std.specs.Prelude.{◌≤◌};
 
+use crate::ring::Ring;
 use banks::bank::Bank;
 use messages::message::Timed;
 
@@ -8,26 +9,24 @@ pub mod calls;
 pub mod questions;
 pub mod running;
 
-// A bank, and the dispatcher's own numbers. Entries lie in the bank and nowhere else: of its span + 1 trays, that of the
-// deadline cycle d is d mod (span + 1).
+// A bank, and the dispatcher's own numbers. Entries lie in the bank and nowhere else, each in the tray of its deadline
+// cycle.
 #[derive(Drop)]
 pub struct Dispatcher<B: Bank>
 where
     B::Item: Timed,
 {
     bank: B,
-    open: bool,
+    // the bank's trays as a ring, once the dispatcher is open
+    ring: Option<Ring>,
     // whether a cycle has been begun
     begun: bool,
-    // the number of trays less one, once it is open
-    span: usize,
     cycle: u32,
     // the next receipt
     receipt: u32,
     accepted: usize,
     dispatched: usize,
     late: usize,
-    ghost short: { span ≤ 127 },
     ghost early: { cycle ≤ 4000000000 },
     ghost few: { receipt ≤ 4000000000 },
 }

@@ -1,4 +1,6 @@
 // What the calls of a dispatcher answer.
+ghost use Rattle.std.specs.Prelude.{◌≡◌};
+ghost use Rattle.dispatcher.specs.Answers.{entered};
 
 // An accepted post: its receipt, its message, and the cycle by which it has to be dispatched.
 #[derive(Clone, Copy, Debug, PartialEq, Eq)]
@@ -13,6 +15,19 @@ pub struct Entry<M> {
 pub struct Slip {
     pub receipt: u32,
     pub deadline: u32,
+}
+
+impl Slip {
+    // The entry of the message that was posted.
+    pub(crate) fn entry<M>(self, message: M) -> Entry<M>
+        ensures { result ≡ entered self message }
+    {
+        Entry {
+            receipt: self.receipt,
+            message,
+            deadline: self.deadline,
+        }
+    }
 }
 
 // What a warning names: within so many cycles, so many entries are due, which is more than can be served.

@@ -6,3 +6,4 @@ pub mod dispatcher;
 pub mod entry;
 pub mod event;
 pub mod laws;
+mod ring;

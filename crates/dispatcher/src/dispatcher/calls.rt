@@ -1,14 +1,18 @@
 // The calls of a dispatcher.
-ghost use Rattle.std.specs.Prelude.{◌≡◌, ◌≤◌};
+ghost use Rattle.std.specs.Prelude.{◌≡◌, ◌+◌, ◌%◌, ◌≤◌, Some, IfSome, option_map};
+ghost use Rattle.banks.specs.Trays.{Takes};
 ghost use Rattle.dispatcher.specs.Search.{FirstHeld};
-ghost use Rattle.dispatcher.specs.Steps.{Fails, Foresees, Starts, Steps, TakesWhenEmpty};
-ghost use Rattle.dispatcher.specs.WholeRuns.{AccountsOn, ObeysOn};
+ghost use Rattle.dispatcher.specs.Steps.{Fails, Foresees, Starts, TakesWhenEmpty};
+ghost use Rattle.dispatcher.specs.Shown.{cell_of};
+ghost use Rattle.dispatcher.specs.Views.{view, waiting_in};
+ghost use Rattle.dispatcher.specs.WholeRuns.{LawfulCall};
 ghost use Rattle.dispatcher.specs.declared.call.Call.TheVariants.{Ask, Begin, Dispatch, Name, Open, Post, Turn, Warn};
 ghost use Rattle.dispatcher.specs.declared.event.Event.TheVariants.{Asked, Begun, Dispatched, Named, Opened, Posted, Turned, Warned};
 ghost use Rattle.dispatcher.specs.Answers.{answered, entered};
 
 use crate::dispatcher::Dispatcher;
 use crate::entry::{Entry, Figures, Slip, Warning};
+use crate::ring::Ring;
 use banks::bank::Bank;
 use messages::message::Timed;
 use messages::refusal::Refusal;
@@ -25,13 +29,12 @@ where
 {
     // A dispatcher that is shut, over any bank.
     pub fn new(bank: B) -> Self
-        ensures { Starts B.Trays.trays B.Trays.tray_limit B.Trays.total_limit B.Item.Timed.interval bank result }
+        ensures { Starts bank result }
     {
         Dispatcher {
             bank,
-            open: false,
+            ring: None,
             begun: false,
-            span: 0,
             cycle: 0,
             receipt: 0,
             accepted: 0,
@@ -41,12 +44,10 @@ where
     }
 
     pub fn open(&mut self, cycle: u32, receipt: u32) -> Result<(), Refusal>
-        ensures steps { Steps B.Trays.trays B.Trays.tray_limit B.Trays.total_limit B.Item.Timed.interval self.old self.new (Open cycle receipt) (answered (Open cycle receipt) (λ _. Opened cycle receipt) result) }
+        ensures lawful { LawfulCall self.old self.new (Open cycle receipt) (answered (Open cycle receipt) (λ _. Opened cycle receipt) result) }
         ensures same { Fails result → self.new ≡ self.old }
-        ensures law { ObeysOn B.Trays.trays B.Trays.tray_limit B.Trays.total_limit B.Item.Timed.interval self.old self.new (Open cycle receipt) (answered (Open cycle receipt) (λ _. Opened cycle receipt) result) }
-        ensures account { AccountsOn B.Trays.trays B.Trays.tray_limit B.Trays.total_limit B.Item.Timed.interval self.old self.new (Open cycle receipt) (answered (Open cycle receipt) (λ _. Opened cycle receipt) result) }
     {
-        if self.open {
+        if self.ring.is_some() {
             return Err(Refusal::AlreadyOpen);
         }
         if cycle > LIMIT || receipt > LIMIT {
@@ -56,25 +57,20 @@ where
         if trays < 2 || self.bank.total() > 0 {
             return Err(Refusal::UnfitBank);
         }
-        self.open = true;
-        self.span = trays - 1;
+        self.ring = Some(Ring::of(trays));
         self.cycle = cycle;
         self.receipt = receipt;
         Ok(())
     }
 
     pub fn post(&mut self, message: B::Item) -> Result<Slip, Refusal>
-        ensures steps { Steps B.Trays.trays B.Trays.tray_limit B.Trays.total_limit B.Item.Timed.interval self.old self.new (Post message) (answered (Post message) (λ p. Posted (entered p message)) result) }
+        ensures lawful { LawfulCall self.old self.new (Post message) (answered (Post message) (λ p. Posted (entered p message)) result) }
         ensures same { Fails result → self.new ≡ self.old }
-        ensures law { ObeysOn B.Trays.trays B.Trays.tray_limit B.Trays.total_limit B.Item.Timed.interval self.old self.new (Post message) (answered (Post message) (λ p. Posted (entered p message)) result) }
-        ensures account { AccountsOn B.Trays.trays B.Trays.tray_limit B.Trays.total_limit B.Item.Timed.interval self.old self.new (Post message) (answered (Post message) (λ p. Posted (entered p message)) result) }
-        ensures room { TakesWhenEmpty B.Trays.trays B.Trays.tray_limit B.Trays.total_limit B.Item.Timed.interval self.old message result }
+        ensures room { TakesWhenEmpty self.old message result }
     {
-        if !self.open {
-            return Err(Refusal::Shut);
-        }
+        let ring = self.ring.ok_or(Refusal::Shut)?;
         let interval = message.interval();
-        if interval == 0 || interval as usize > self.span {
+        if interval == 0 || interval as usize > ring.span() {
             return Err(Refusal::IntervalOutOfRange);
         }
         if self.receipt >= LIMIT {
@@ -82,29 +78,19 @@ where
         }
         let receipt = self.receipt;
         let deadline = self.cycle + interval as u32;
-        match self
-            .bank
-            .put(deadline as usize % (self.span + 1), receipt, message)
-        {
-            Ok(()) => {
-                self.receipt = receipt + 1;
-                self.accepted = self.accepted.saturating_add(1);
-                Ok(Slip { receipt, deadline })
-            }
-            Err(_) => Err(Refusal::Full),
-        }
+        self.bank.put(ring.tray_of(deadline), receipt, message)?;
+        self.receipt = receipt + 1;
+        self.accepted = self.accepted.saturating_add(1);
+        Ok(Slip { receipt, deadline })
     }
 
     // How many cycles ahead the first tray lies that holds a cell.
-    fn soonest(&self) -> Option<usize>
-        ensures { FirstHeld (B.Trays.trays self.now.bank) self.now.span self.now.cycle result }
+    fn soonest(&self, ring: Ring) -> Option<usize>
+        ensures { FirstHeld (view self.now).trays ring.span (view self.now).cycle result }
     {
-        for ahead in 1..self.span + 1 {
-            if self
-                .bank
-                .count((self.cycle as usize + ahead) % (self.span + 1))
-                > 0
-            {
+        // a `find` over these cycles would want a sum that fits for every number, not only for those up to the span
+        for ahead in 1..ring.span() + 1 {
+            if self.bank.count(ring.tray_of(self.cycle + ahead as u32)) > 0 {
                 return Some(ahead);
             }
         }
@@ -113,64 +99,35 @@ where
 
     // The pending entry of the earliest deadline, and of these the one that was posted first.
     pub fn dispatch(&mut self) -> Result<Option<Entry<B::Item>>, Refusal>
-        ensures steps { Steps B.Trays.trays B.Trays.tray_limit B.Trays.total_limit B.Item.Timed.interval self.old self.new Dispatch (answered Dispatch Dispatched result) }
+        ensures lawful { LawfulCall self.old self.new Dispatch (answered Dispatch Dispatched result) }
         ensures same { Fails result → self.new ≡ self.old }
-        ensures law { ObeysOn B.Trays.trays B.Trays.tray_limit B.Trays.total_limit B.Item.Timed.interval self.old self.new Dispatch (answered Dispatch Dispatched result) }
-        ensures account { AccountsOn B.Trays.trays B.Trays.tray_limit B.Trays.total_limit B.Item.Timed.interval self.old self.new Dispatch (answered Dispatch Dispatched result) }
     {
-        if !self.open {
-            return Err(Refusal::Shut);
-        }
-        let Some(ahead) = self.soonest() else {
+        let ring = self.ring.ok_or(Refusal::Shut)?;
+        let Some(ahead) = self.soonest(ring) else {
             return Ok(None);
         };
+        self.dispatched = self.dispatched.saturating_add(1);
         let deadline = self.cycle + ahead as u32;
-        match self.bank.take(deadline as usize % (self.span + 1)) {
-            Some(cell) => {
-                self.dispatched = self.dispatched.saturating_add(1);
-                Ok(Some(Entry {
-                    receipt: cell.receipt,
-                    message: cell.message,
-                    deadline,
-                }))
-            }
-            None => Ok(None),
-        }
+        Ok(take_due(&mut self.bank, ring, deadline))
     }
 
     // The first of the late entries that wait.
     pub fn name(&mut self) -> Result<Option<Entry<B::Item>>, Refusal>
-        ensures steps { Steps B.Trays.trays B.Trays.tray_limit B.Trays.total_limit B.Item.Timed.interval self.old self.new Name (answered Name Named result) }
+        ensures lawful { LawfulCall self.old self.new Name (answered Name Named result) }
         ensures same { Fails result → self.new ≡ self.old }
-        ensures law { ObeysOn B.Trays.trays B.Trays.tray_limit B.Trays.total_limit B.Item.Timed.interval self.old self.new Name (answered Name Named result) }
-        ensures account { AccountsOn B.Trays.trays B.Trays.tray_limit B.Trays.total_limit B.Item.Timed.interval self.old self.new Name (answered Name Named result) }
     {
-        if !self.open {
-            return Err(Refusal::Shut);
-        }
-        let deadline = self.cycle;
-        match self.bank.take(deadline as usize % (self.span + 1)) {
-            Some(cell) => Ok(Some(Entry {
-                receipt: cell.receipt,
-                message: cell.message,
-                deadline,
-            })),
-            None => Ok(None),
-        }
+        let ring = self.ring.ok_or(Refusal::Shut)?;
+        Ok(take_due(&mut self.bank, ring, self.cycle))
     }
 
     // Begins the next cycle, and answers how many entries are late now. No cell is moved: the tray of the new cycle is
     // that of the late entries.
     pub fn turn(&mut self, cycle: u32) -> Result<usize, Refusal>
-        ensures steps { Steps B.Trays.trays B.Trays.tray_limit B.Trays.total_limit B.Item.Timed.interval self.old self.new (Turn cycle) (answered (Turn cycle) (Turned cycle) result) }
+        ensures lawful { LawfulCall self.old self.new (Turn cycle) (answered (Turn cycle) (Turned cycle) result) }
         ensures same { Fails result → self.new ≡ self.old }
-        ensures law { ObeysOn B.Trays.trays B.Trays.tray_limit B.Trays.total_limit B.Item.Timed.interval self.old self.new (Turn cycle) (answered (Turn cycle) (Turned cycle) result) }
-        ensures account { AccountsOn B.Trays.trays B.Trays.tray_limit B.Trays.total_limit B.Item.Timed.interval self.old self.new (Turn cycle) (answered (Turn cycle) (Turned cycle) result) }
     {
-        if !self.open {
-            return Err(Refusal::Shut);
-        }
-        if self.bank.count(self.cycle as usize % (self.span + 1)) > 0 {
+        let ring = self.ring.ok_or(Refusal::Shut)?;
+        if self.bank.count(ring.tray_of(self.cycle)) > 0 {
             return Err(Refusal::LateWaiting);
         }
         if cycle != self.cycle + 1 {
@@ -179,23 +136,22 @@ where
         if cycle > LIMIT {
             return Err(Refusal::CyclesUsedUp);
         }
-        let late = self.bank.count(cycle as usize % (self.span + 1));
+        let late = self.bank.count(ring.tray_of(cycle));
         self.cycle = cycle;
         self.late = self.late.saturating_add(late);
         Ok(late)
     }
 
     // The first of the cycles ahead with more entries due by it than so many services in each cycle can serve.
-    fn foresee(&self, services: usize) -> Option<Warning>
-        requires { services ≤ 1000 }
-        ensures { Foresees B.Trays.trays B.Trays.tray_limit B.Trays.total_limit B.Item.Timed.interval self.now services result }
+    fn foresee(&self, ring: Ring, services: usize) -> Option<Warning>
+        requires ring { self.now.ring ≡ Some ring }
+        requires services { services ≤ 1000 }
+        ensures { Foresees self.now services result }
     {
         let mut due: usize = 0;
-        for ahead in 1..self.span + 1 {
-            due = due.saturating_add(
-                self.bank
-                    .count((self.cycle as usize + ahead) % (self.span + 1)),
-            );
+        for ahead in 1..ring.span() + 1 {
+            let tray = ring.tray_of(self.cycle + ahead as u32);
+            due = due.saturating_add(self.bank.count(tray));
             if due > services * ahead {
                 return Some(Warning { ahead, load: due });
             }
@@ -205,30 +161,22 @@ where
 
     // Whether so many services in this cycle and in each later one are too few for what is pending.
     pub fn warn(&mut self, services: u32) -> Result<Option<Warning>, Refusal>
-        ensures steps { Steps B.Trays.trays B.Trays.tray_limit B.Trays.total_limit B.Item.Timed.interval self.old self.new (Warn services) (answered (Warn services) (Warned services) result) }
+        ensures lawful { LawfulCall self.old self.new (Warn services) (answered (Warn services) (Warned services) result) }
         ensures same { self.new ≡ self.old }
-        ensures law { ObeysOn B.Trays.trays B.Trays.tray_limit B.Trays.total_limit B.Item.Timed.interval self.old self.new (Warn services) (answered (Warn services) (Warned services) result) }
-        ensures account { AccountsOn B.Trays.trays B.Trays.tray_limit B.Trays.total_limit B.Item.Timed.interval self.old self.new (Warn services) (answered (Warn services) (Warned services) result) }
     {
-        if !self.open {
-            return Err(Refusal::Shut);
-        }
+        let ring = self.ring.ok_or(Refusal::Shut)?;
         if services > MOST_SERVICES {
             return Err(Refusal::TooManyServices);
         }
-        Ok(self.foresee(services as usize))
+        Ok(self.foresee(ring, services as usize))
     }
 
     // Begins a cycle. It is kept that this was done, and nothing else changes.
     pub fn begin(&mut self) -> Result<(), Refusal>
-        ensures steps { Steps B.Trays.trays B.Trays.tray_limit B.Trays.total_limit B.Item.Timed.interval self.old self.new Begin (answered Begin (λ _. Begun) result) }
+        ensures lawful { LawfulCall self.old self.new Begin (answered Begin (λ _. Begun) result) }
         ensures same { Fails result → self.new ≡ self.old }
-        ensures law { ObeysOn B.Trays.trays B.Trays.tray_limit B.Trays.total_limit B.Item.Timed.interval self.old self.new Begin (answered Begin (λ _. Begun) result) }
-        ensures account { AccountsOn B.Trays.trays B.Trays.tray_limit B.Trays.total_limit B.Item.Timed.interval self.old self.new Begin (answered Begin (λ _. Begun) result) }
     {
-        if !self.open {
-            return Err(Refusal::Shut);
-        }
+        self.ring.ok_or(Refusal::Shut)?;
         if self.begun {
             return Err(Refusal::OutOfPhase);
         }
@@ -238,21 +186,9 @@ where
 
     // How things stand. Nothing changes.
     pub fn ask(&mut self) -> Figures
-        ensures steps { Steps B.Trays.trays B.Trays.tray_limit B.Trays.total_limit B.Item.Timed.interval self.old self.new Ask (Asked result) }
+        ensures lawful { LawfulCall self.old self.new Ask (Asked result) }
         ensures same { self.new ≡ self.old }
-        ensures law { ObeysOn B.Trays.trays B.Trays.tray_limit B.Trays.total_limit B.Item.Timed.interval self.old self.new Ask (Asked result) }
-        ensures account { AccountsOn B.Trays.trays B.Trays.tray_limit B.Trays.total_limit B.Item.Timed.interval self.old self.new Ask (Asked result) }
     {
-        if !self.open {
-            return Figures {
-                cycle: self.cycle,
-                accepted: self.accepted,
-                dispatched: self.dispatched,
-                late: self.late,
-                pending: 0,
-                waiting: 0,
-            };
-        }
         Figures {
             cycle: self.cycle,
             accepted: self.accepted,
@@ -262,7 +198,30 @@ where
                 .accepted
                 .saturating_sub(self.dispatched)
                 .saturating_sub(self.late),
-            waiting: self.bank.count(self.cycle as usize % (self.span + 1)),
+            waiting: self.waiting(),
         }
     }
+
+    // How many late entries wait.
+    fn waiting(&self) -> usize
+        ensures { result ≡ waiting_in (view self.now) }
+    {
+        match self.ring {
+            Some(ring) => self.bank.count(ring.tray_of(self.cycle)),
+            None => 0,
+        }
+    }
+}
+
+// Takes the first entry of a deadline out of its tray, if there is one.
+fn take_due<B: Bank>(bank: &mut B, ring: Ring, deadline: u32) -> Option<Entry<B::Item>>
+    ensures takes { Takes B.Trays.trays B.Trays.tray_limit B.Trays.total_limit bank.old bank.new (deadline % (ring.span + 1)) (option_map cell_of result) }
+    ensures due { IfSome result (λ entry. entry.deadline ≡ deadline) }
+{
+    let cell = bank.take(ring.tray_of(deadline))?;
+    Some(Entry {
+        receipt: cell.receipt,
+        message: cell.message,
+        deadline,
+    })
 }

@@ -1,5 +1,6 @@
 // What a dispatcher tells without a call.
 ghost use Rattle.std.specs.Prelude.{◌≡◌};
+ghost use Rattle.dispatcher.specs.Views.{view};
 
 use crate::dispatcher::Dispatcher;
 use banks::bank::Bank;
@@ -11,14 +12,14 @@ where
 {
     // Whether it has been opened.
     pub fn is_open(&self) -> bool
-        ensures { result ≡ self.now.«open» }
+        ensures { result ≡ (view self.now).is_open }
     {
-        self.open
+        self.ring.is_some()
     }
 
     // The cycle that it is in.
     pub fn cycle(&self) -> u32
-        ensures { result ≡ self.now.cycle }
+        ensures { result ≡ (view self.now).cycle }
     {
         self.cycle
     }

@@ -1,6 +1,6 @@
 // Calls one after another, from a newly made dispatcher on.
-ghost use Rattle.dispatcher.specs.Steps.{Steps};
-ghost use Rattle.dispatcher.specs.WholeRuns.{AccountedRun, AccountsOn, ObeysOn, WholeRun};
+ghost use Rattle.dispatcher.specs.Answers.{answered};
+ghost use Rattle.dispatcher.specs.WholeRuns.{AccountedRun, LawfulCall, WholeRun};
 ghost use Rattle.std.specs.Prelude.{IfOk};
 
 use crate::call::Call;
@@ -8,6 +8,7 @@ use crate::dispatcher::Dispatcher;
 use crate::event::Event;
 use banks::bank::Bank;
 use messages::message::Timed;
+use messages::refusal::Refusal;
 use std::alloc::{AllocError, Global};
 
 impl<B: Bank> Dispatcher<B>
@@ -16,27 +17,33 @@ where
 {
     // Makes a call that is given as a value, and gives it back with its answer.
     pub fn perform(&mut self, call: Call<B::Item>) -> Event<B::Item>
-        ensures steps { Steps B.Trays.trays B.Trays.tray_limit B.Trays.total_limit B.Item.Timed.interval self.old self.new call result }
-        ensures law { ObeysOn B.Trays.trays B.Trays.tray_limit B.Trays.total_limit B.Item.Timed.interval self.old self.new call result }
-        ensures account { AccountsOn B.Trays.trays B.Trays.tray_limit B.Trays.total_limit B.Item.Timed.interval self.old self.new call result }
+        ensures { LawfulCall self.old self.new call result }
     {
-        self.answer(call)
+        match self.attempt(call) {
+            Ok(event) => event,
+            Err(refusal) => Event::Refused(call, refusal),
+        }
     }
 
-    fn answer(&mut self, call: Call<B::Item>) -> Event<B::Item>
-        ensures { Steps B.Trays.trays B.Trays.tray_limit B.Trays.total_limit B.Item.Timed.interval self.old self.new call result }
+    // Makes a call, and tells what happened if it is accepted.
+    fn attempt(&mut self, call: Call<B::Item>) -> Result<Event<B::Item>, Refusal>
+        ensures { LawfulCall self.old self.new call (answered call (λ event. event) result) }
     {
         match call {
             Call::Open(cycle, receipt) => {
-                Event::after_open(cycle, receipt, self.open(cycle, receipt))
+                self.open(cycle, receipt)?;
+                Ok(Event::Opened(cycle, receipt))
             }
-            Call::Post(message) => Event::after_post(message, self.post(message)),
-            Call::Dispatch => Event::after_dispatch(self.dispatch()),
-            Call::Turn(cycle) => Event::after_turn(cycle, self.turn(cycle)),
-            Call::Name => Event::after_name(self.name()),
-            Call::Warn(services) => Event::after_warn(services, self.warn(services)),
-            Call::Begin => Event::after_begin(self.begin()),
-            Call::Ask => Event::Asked(self.ask()),
+            Call::Post(message) => Ok(Event::Posted(self.post(message)?.entry(message))),
+            Call::Dispatch => Ok(Event::Dispatched(self.dispatch()?)),
+            Call::Turn(cycle) => Ok(Event::Turned(cycle, self.turn(cycle)?)),
+            Call::Name => Ok(Event::Named(self.name()?)),
+            Call::Warn(services) => Ok(Event::Warned(services, self.warn(services)?)),
+            Call::Begin => {
+                self.begin()?;
+                Ok(Event::Begun)
+            }
+            Call::Ask => Ok(Event::Asked(self.ask())),
         }
     }
 }
@@ -49,8 +56,8 @@ pub fn run<B: Bank + Drop>(
 ) -> Result<(Dispatcher<B>, Vec<Event<B::Item>>), AllocError>
 where
     B::Item: Timed,
-    ensures law { IfOk result (λ out. WholeRun B.Trays.trays out.0 calls.now out.1.items) }
-    ensures account { IfOk result (λ out. AccountedRun B.Trays.trays B.Trays.tray_limit B.Trays.total_limit B.Item.Timed.interval bank out.0 calls.now out.1.items) }
+    ensures law { IfOk result (λ out. WholeRun out.0 calls.now out.1.items) }
+    ensures account { IfOk result (λ out. AccountedRun bank out.0 calls.now out.1.items) }
 {
     let mut dispatcher = Dispatcher::new(bank);
     let mut events = Vec::new(heap);

@@ -1,31 +1,28 @@
+use Rattle.std.proofs.Common.{◌≡◌, Some, None, Err, not, ap, ◌∙◌, rules}
+use Rattle.messages.specs.declared.refusal.Refusal.TheVariants.{OutOfPhase, Shut}
 use Rattle.dispatcher.specs.declared.call.Call.TheVariants.{Begin}
+use Rattle.dispatcher.specs.Views.{view}
+use Rattle.dispatcher.proofs.Calling.{here, refuse, skip}
+use Rattle.dispatcher.proofs.Opened.{found, missing, opened, refuses, shut}
+use Rattle.dispatcher.proofs.RealRuns.{lawful}
 use Rattle.dispatcher.proofs.Turning.{begins}
-use Rattle.std.proofs.Common.{rules}
-use Rattle.dispatcher.proofs.RealRuns.{accounts_on, carries_on}
 use Rattle.dispatcher.proofs.dispatcher.Dispatcher.begin.Goals as goal
 
-pub returns-clause-steps : goal.returns-clause-steps
-returns-clause-steps g c =
-    λ b m s. begins b _ m s c.if-not-self.false (cc)
+pub returns-in_err-ok_or-clause-lawful : goal.returns-in_err-ok_or-clause-lawful
+returns-in_err-ok_or-clause-lawful g c =
+    let d = c.args.self.now in
+    let none : d.ring ≡ None = missing d _ _ c.ok_or.ensures.ok_part c.in_err-ok_or.was in
+    let r : c.from_residual.result ≡ Err Shut = search rules in
+    refuses d Begin _ c.from_residual.result Shut r (λ b s w. here _ Shut _ (ap not (shut d none)))
 
-pub returns-clause-same : goal.returns-clause-same
-returns-clause-same g c =
-    λ f. absurd f
+pub returns-then-self-clause-lawful : goal.returns-then-self-clause-lawful
+returns-then-self-clause-lawful g c =
+    let d = c.args.self.now in
+    let some : d.ring ≡ Some c.in_ok-ok_or.field-0 = found d _ _ c.ok_or.ensures.ok_part c.in_ok-ok_or.was in
+    lawful d d Begin _ (λ b s w. refuse b _ s Begin w OutOfPhase (skip _ Shut _ (ap not (opened d _ some)) ∙ here _ OutOfPhase _ c.if-self.true))
 
-pub returns-clause-law : goal.returns-clause-law
-returns-clause-law g c = carries_on _ _ _ _ (returns-clause-steps g c)
-
-pub returns-clause-account : goal.returns-clause-account
-returns-clause-account g c = accounts_on _ _ Begin _ (returns-clause-steps g c)
-
-pub returns-then-not-self-clause-law : goal.returns-then-not-self-clause-law
-returns-then-not-self-clause-law g c = carries_on _ _ _ _ (search rules)
-
-pub returns-then-not-self-clause-account : goal.returns-then-not-self-clause-account
-returns-then-not-self-clause-account g c = accounts_on _ _ Begin _ (search rules)
-
-pub returns-then-self-clause-law : goal.returns-then-self-clause-law
-returns-then-self-clause-law g c = carries_on _ _ _ _ (search rules)
-
-pub returns-then-self-clause-account : goal.returns-then-self-clause-account
-returns-then-self-clause-account g c = accounts_on _ _ Begin _ (search rules)
+pub returns-clause-lawful : goal.returns-clause-lawful
+returns-clause-lawful g c =
+    let d = c.args.self.now in
+    let some : d.ring ≡ Some c.in_ok-ok_or.field-0 = found d _ _ c.ok_or.ensures.ok_part c.in_ok-ok_or.was in
+    lawful d _ Begin _ (λ b s w. begins b (view d) s w (opened d _ some) c.if-self.false)

@@ -1,46 +1,33 @@
+use Rattle.std.proofs.Common.{◌≡◌, ◌+◌, Some, Err, not, ap, subst, arith, rules}
+use Rattle.messages.specs.declared.refusal.Refusal.TheVariants.{Shut}
 use Rattle.dispatcher.specs.declared.call.Call.TheVariants.{Dispatch}
-use Rattle.dispatcher.proofs.Dispatching.{dispatches, dispatches_none}
-use Rattle.std.proofs.Common.{rules}
-use Rattle.dispatcher.proofs.RealRuns.{accounts_on, carries_on}
-use Rattle.std.proofs.Common.{arith}
+use Rattle.dispatcher.specs.Views.{view}
+use Rattle.dispatcher.proofs.Calling.{here}
+use Rattle.dispatcher.proofs.Opened.{found, missing, opened, refuses, shut, span_is, taken}
+use Rattle.dispatcher.proofs.RealRuns.{lawful}
+use Rattle.std.specs.Prelude.{[]}
+use Rattle.dispatcher.specs.Search.{FirstHeld, tray_ahead}
+use Rattle.dispatcher.proofs.Dispatching.{dispatches_any, dispatches_none}
 use Rattle.dispatcher.proofs.dispatcher.Dispatcher.dispatch.Goals as goal
 
-pub returns-in_default-clause-steps : goal.returns-in_default-clause-steps
-returns-in_default-clause-steps g c =
-    λ b m s. dispatches_none b _ m s c.if-not-self.false c.in_default.ensures
+pub returns-in_err-ring-clause-lawful : goal.returns-in_err-ring-clause-lawful
+returns-in_err-ring-clause-lawful g c =
+    let d = c.args.self.now in
+    let none = missing d _ _ c.ok_or.ensures.ok_part c.in_err-ring.was in
+    let r : c.from_residual.result ≡ Err Shut = search rules in
+    refuses d Dispatch _ c.from_residual.result Shut r (λ b s w. here _ Shut _ (ap not (shut d none)))
 
-pub returns-in_default-clause-same : goal.returns-in_default-clause-same
-returns-in_default-clause-same g c =
-    λ f. absurd f
+pub returns-in_default-clause-lawful : goal.returns-in_default-clause-lawful
+returns-in_default-clause-lawful g c =
+    let d = c.args.self.now in
+    let some = found d _ _ c.ok_or.ensures.ok_part c.in_ok-ring.was in
+    let span = span_is d _ some in
+    lawful d d Dispatch _ (λ b s w. dispatches_none b (view d) s w (opened d _ some) (λ f low high. subst (λ N. tray_ahead (view d).trays N d.cycle f ≡ []) span (c.in_default.ensures f low (omega arith))))
 
-pub returns-in_default-clause-law : goal.returns-in_default-clause-law
-returns-in_default-clause-law g c = carries_on _ _ _ _ (returns-in_default-clause-steps g c)
-
-pub returns-in_default-clause-account : goal.returns-in_default-clause-account
-returns-in_default-clause-account g c = accounts_on _ _ Dispatch _ (returns-in_default-clause-steps g c)
-
-pub returns-in-Some-take-clause-steps : goal.returns-in-Some-take-clause-steps
-returns-in-Some-take-clause-steps g c =
-    λ b m s. dispatches b _ m s c.if-not-self.false c.in-Some.ahead c.in-Some-take.cell (g.B.Trays.trays c.take.new.self) (g.B.Trays.tray_limit c.take.new.self) (g.B.Trays.total_limit c.take.new.self) c.saturating_add-self.result c.in-Some.ensures c.in-Some-take.ensures.answer c.take.ensures.left c.take.ensures.limits.0 c.take.ensures.limits.1 (λ l. omega arith)
-
-pub returns-in-Some-take-clause-same : goal.returns-in-Some-take-clause-same
-returns-in-Some-take-clause-same g c =
-    λ f. absurd f
-
-pub returns-in-Some-take-clause-law : goal.returns-in-Some-take-clause-law
-returns-in-Some-take-clause-law g c = carries_on _ _ _ _ (returns-in-Some-take-clause-steps g c)
-
-pub returns-in-Some-take-clause-account : goal.returns-in-Some-take-clause-account
-returns-in-Some-take-clause-account g c = accounts_on _ _ Dispatch _ (returns-in-Some-take-clause-steps g c)
-
-pub returns-then-not-self-clause-law : goal.returns-then-not-self-clause-law
-returns-then-not-self-clause-law g c = carries_on _ _ _ _ (search rules)
-
-pub returns-then-not-self-clause-account : goal.returns-then-not-self-clause-account
-returns-then-not-self-clause-account g c = accounts_on _ _ Dispatch _ (search rules)
-
-pub returns-in-None-clause-law : goal.returns-in-None-clause-law
-returns-in-None-clause-law g c = carries_on _ _ _ _ (search rules)
-
-pub returns-in-None-clause-account : goal.returns-in-None-clause-account
-returns-in-None-clause-account g c = accounts_on _ _ Dispatch _ (search rules)
+pub returns-clause-lawful : goal.returns-clause-lawful
+returns-clause-lawful g c =
+    let d = c.args.self.now in
+    let some = found d _ _ c.ok_or.ensures.ok_part c.in_ok-ring.was in
+    let take = taken d _ (d.cycle + c.in-Some.ahead) c.take_due.result some c.take_due.ensures.takes in
+    let held = subst (λ N. FirstHeld (view d).trays N d.cycle (Some c.in-Some.ahead)) (span_is d _ some) c.in-Some.ensures in
+    lawful d _ Dispatch _ (λ b s w. dispatches_any b (view d) s w (opened d _ some) c.take_due.result c.in-Some.ahead _ _ _ _ held take.answer take.left take.limits.0 take.limits.1 (λ l. omega arith) c.take_due.ensures.due)

@@ -8,4 +8,4 @@ use Rattle.dispatcher.proofs.dispatcher.Dispatcher.foresee.Given as goal
 -- of any state that the dispatcher shows, the trays so far are counted
 abbrev pub invariant-loop-ahead : goal.invariant-loop-ahead
 invariant-loop-ahead g l =
-    (b : Terms g.row.B-Item.Denot) (m : State g.row.B-Item.Denot) → Shows b (view g.B.Trays.trays g.B.Trays.tray_limit g.B.Trays.total_limit g.B.Item.Timed.interval l.self) m → l.self.«open» ≡ true → Counted l.services l.self.cycle l.self.span m.pending l.ahead l.due
+    (b : Terms g.row.B-Item.Denot) (s : State g.row.B-Item.Denot) → Shows b (view l.self) s → (view l.self).is_open ≡ true → Counted l.services (view l.self).cycle (view l.self).span s.pending l.ahead l.due

@@ -1,39 +1,23 @@
+use Rattle.std.proofs.Common.{◌≡◌, Err, not, ap, rules}
+use Rattle.messages.specs.declared.refusal.Refusal.TheVariants.{Shut}
 use Rattle.dispatcher.specs.declared.call.Call.TheVariants.{Name}
-use Rattle.dispatcher.proofs.Dispatching.{names, names_none}
-use Rattle.std.proofs.Common.{rules}
-use Rattle.dispatcher.proofs.RealRuns.{accounts_on, carries_on}
+use Rattle.dispatcher.specs.Views.{view}
+use Rattle.dispatcher.proofs.Calling.{here}
+use Rattle.dispatcher.proofs.Dispatching.{names_any}
+use Rattle.dispatcher.proofs.Opened.{found, missing, opened, refuses, shut, taken}
+use Rattle.dispatcher.proofs.RealRuns.{lawful}
 use Rattle.dispatcher.proofs.dispatcher.Dispatcher.name.Goals as goal
 
-pub returns-in-Some-clause-steps : goal.returns-in-Some-clause-steps
-returns-in-Some-clause-steps g c =
-    λ b m s. names b _ m s c.if-not-self.false c.in-Some.cell (g.B.Trays.trays c.take.new.self) (g.B.Trays.tray_limit c.take.new.self) (g.B.Trays.total_limit c.take.new.self) c.in-Some.ensures.answer c.take.ensures.left c.take.ensures.limits.0 c.take.ensures.limits.1
+pub returns-in_err-ring-clause-lawful : goal.returns-in_err-ring-clause-lawful
+returns-in_err-ring-clause-lawful g c =
+    let d = c.args.self.now in
+    let none = missing d _ _ c.ok_or.ensures.ok_part c.in_err-ring.was in
+    let r : c.from_residual.result ≡ Err Shut = search rules in
+    refuses d Name _ c.from_residual.result Shut r (λ b s w. here _ Shut _ (ap not (shut d none)))
 
-pub returns-in-Some-clause-same : goal.returns-in-Some-clause-same
-returns-in-Some-clause-same g c =
-    λ f. absurd f
-
-pub returns-in-Some-clause-law : goal.returns-in-Some-clause-law
-returns-in-Some-clause-law g c = carries_on _ _ _ _ (returns-in-Some-clause-steps g c)
-
-pub returns-in-Some-clause-account : goal.returns-in-Some-clause-account
-returns-in-Some-clause-account g c = accounts_on _ _ Name _ (returns-in-Some-clause-steps g c)
-
-pub returns-in-None-clause-steps : goal.returns-in-None-clause-steps
-returns-in-None-clause-steps g c =
-    λ b m s. names_none b _ m s c.if-not-self.false (g.B.Trays.trays c.take.new.self) (g.B.Trays.tray_limit c.take.new.self) (g.B.Trays.total_limit c.take.new.self) c.in-None.ensures.answer c.take.ensures.left c.take.ensures.limits.0 c.take.ensures.limits.1
-
-pub returns-in-None-clause-same : goal.returns-in-None-clause-same
-returns-in-None-clause-same g c =
-    λ f. absurd f
-
-pub returns-in-None-clause-law : goal.returns-in-None-clause-law
-returns-in-None-clause-law g c = carries_on _ _ _ _ (returns-in-None-clause-steps g c)
-
-pub returns-in-None-clause-account : goal.returns-in-None-clause-account
-returns-in-None-clause-account g c = accounts_on _ _ Name _ (returns-in-None-clause-steps g c)
-
-pub returns-then-not-self-clause-law : goal.returns-then-not-self-clause-law
-returns-then-not-self-clause-law g c = carries_on _ _ _ _ (search rules)
-
-pub returns-then-not-self-clause-account : goal.returns-then-not-self-clause-account
-returns-then-not-self-clause-account g c = accounts_on _ _ Name _ (search rules)
+pub returns-clause-lawful : goal.returns-clause-lawful
+returns-clause-lawful g c =
+    let d = c.args.self.now in
+    let some = found d _ _ c.ok_or.ensures.ok_part c.in_ok-ring.was in
+    let take = taken d _ d.cycle c.take_due.result some c.take_due.ensures.takes in
+    lawful d _ Name _ (λ b s w. names_any b (view d) s w (opened d _ some) c.take_due.result _ _ _ take.answer take.left take.limits.0 take.limits.1 c.take_due.ensures.due)

@@ -1,40 +1,32 @@
-use Rattle.std.proofs.Common.{◌-◌, arith}
-use Rattle.std.proofs.Common.{rules}
+use Rattle.std.proofs.Common.{◌≡◌, true, false, sym, arith, rules}
+use Rattle.messages.specs.declared.refusal.Refusal.TheVariants.{AlreadyOpen, StartTooHigh, UnfitBank}
 use Rattle.dispatcher.specs.declared.call.Call.TheVariants.{Open}
-use Rattle.dispatcher.proofs.RealRuns.{accounts_on, carries_on}
+use Rattle.dispatcher.specs.Views.{view}
+use Rattle.dispatcher.proofs.Calling.{here, refuse}
+use Rattle.dispatcher.proofs.RealRuns.{lawful}
 use Rattle.dispatcher.proofs.Calling.{opens}
 use Rattle.dispatcher.proofs.dispatcher.Dispatcher.open.Goals as goal
 
-pub returns-clause-steps : goal.returns-clause-steps
-returns-clause-steps g c =
-    let N = c.tray_count-trays.result - 1 in
-    let trays = g.B.Trays.trays c.args.self.now.bank in
-    λ b m s. opens b _ m s c.args.cycle c.args.receipt N c.if-self.false (omega arith) (omega arith) (omega arith) (omega arith) (omega arith)
+pub returns-then-is_some-clause-lawful : goal.returns-then-is_some-clause-lawful
+returns-then-is_some-clause-lawful g c =
+    let d = c.args.self.now in
+    let o : (view d).is_open ≡ true = sym c.if-is_some.ensures in
+    lawful d d (Open c.args.cycle c.args.receipt) _ (λ b s w. refuse b (view d) s _ w AlreadyOpen (here _ AlreadyOpen _ o))
 
-pub returns-clause-same : goal.returns-clause-same
-returns-clause-same g c =
-    λ f. absurd f
+pub returns-then-cycle-gt-LIMIT-clause-lawful : goal.returns-then-cycle-gt-LIMIT-clause-lawful
+returns-then-cycle-gt-LIMIT-clause-lawful g c =
+    let d = c.args.self.now in
+    let o : (view d).is_open ≡ false = sym c.if-is_some.ensures in
+    lawful d d (Open c.args.cycle c.args.receipt) _ (λ b s w. refuse b (view d) s (Open c.args.cycle c.args.receipt) w StartTooHigh (search rules))
 
-pub returns-clause-law : goal.returns-clause-law
-returns-clause-law g c = carries_on _ _ _ _ (returns-clause-steps g c)
+pub returns-then-trays-lt2-clause-lawful : goal.returns-then-trays-lt2-clause-lawful
+returns-then-trays-lt2-clause-lawful g c =
+    let d = c.args.self.now in
+    let o : (view d).is_open ≡ false = sym c.if-is_some.ensures in
+    lawful d d (Open c.args.cycle c.args.receipt) _ (λ b s w. refuse b (view d) s (Open c.args.cycle c.args.receipt) w UnfitBank (search rules))
 
-pub returns-clause-account : goal.returns-clause-account
-returns-clause-account g c = accounts_on _ _ (Open c.args.cycle c.args.receipt) _ (returns-clause-steps g c)
-
-pub returns-then-self-clause-law : goal.returns-then-self-clause-law
-returns-then-self-clause-law g c = carries_on _ _ _ _ (search rules)
-
-pub returns-then-self-clause-account : goal.returns-then-self-clause-account
-returns-then-self-clause-account g c = accounts_on _ _ (Open c.args.cycle c.args.receipt) _ (search rules)
-
-pub returns-then-cycle-gt-LIMIT-clause-law : goal.returns-then-cycle-gt-LIMIT-clause-law
-returns-then-cycle-gt-LIMIT-clause-law g c = carries_on _ _ _ _ (search rules)
-
-pub returns-then-cycle-gt-LIMIT-clause-account : goal.returns-then-cycle-gt-LIMIT-clause-account
-returns-then-cycle-gt-LIMIT-clause-account g c = accounts_on _ _ (Open c.args.cycle c.args.receipt) _ (search rules)
-
-pub returns-then-trays-lt2-clause-law : goal.returns-then-trays-lt2-clause-law
-returns-then-trays-lt2-clause-law g c = carries_on _ _ _ _ (search rules)
-
-pub returns-then-trays-lt2-clause-account : goal.returns-then-trays-lt2-clause-account
-returns-then-trays-lt2-clause-account g c = accounts_on _ _ (Open c.args.cycle c.args.receipt) _ (search rules)
+pub returns-clause-lawful : goal.returns-clause-lawful
+returns-clause-lawful g c =
+    let d = c.args.self.now in
+    let o : (view d).is_open ≡ false = sym c.if-is_some.ensures in
+    lawful d _ (Open c.args.cycle c.args.receipt) _ (λ b s w. opens b (view d) s w c.args.cycle c.args.receipt _ o (omega arith) (omega arith) (omega arith) (omega arith) (omega arith))

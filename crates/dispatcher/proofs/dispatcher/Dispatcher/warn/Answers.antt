@@ -1,32 +1,30 @@
-use Rattle.std.proofs.Common.{refl}
-use Rattle.std.proofs.Common.{rules}
+use Rattle.std.proofs.Common.{◌≡◌, Err, not, ap, rules}
+use Rattle.messages.specs.declared.refusal.Refusal.TheVariants.{Shut, TooManyServices}
 use Rattle.dispatcher.specs.declared.call.Call.TheVariants.{Warn}
-use Rattle.dispatcher.proofs.RealRuns.{accounts_on, carries_on}
+use Rattle.dispatcher.specs.Views.{view}
+use Rattle.dispatcher.proofs.Calling.{here, refuse}
+use Rattle.dispatcher.proofs.Opened.{found, missing, opened, refuses, shut}
+use Rattle.dispatcher.proofs.RealRuns.{lawful}
 use Rattle.dispatcher.proofs.Foreseeing.{warns}
 use Rattle.dispatcher.proofs.dispatcher.Dispatcher.warn.Goals as goal
 
-pub returns-clause-steps : goal.returns-clause-steps
-returns-clause-steps g c =
-    λ b m s. warns b _ m s c.if-not-self.false c.args.services _ c.if-services-gt-MOST_SERVICES.false (c.foresee.ensures b m s c.if-not-self.false)
+pub returns-in_err-ring-clause-lawful : goal.returns-in_err-ring-clause-lawful
+returns-in_err-ring-clause-lawful g c =
+    let d = c.args.self.now in
+    let none = missing d _ _ c.ok_or.ensures.ok_part c.in_err-ring.was in
+    let r : c.from_residual.result ≡ Err Shut = search rules in
+    refuses d (Warn c.args.services) _ c.from_residual.result Shut r (λ b s w. here _ Shut _ (ap not (shut d none)))
 
-pub returns-clause-same : goal.returns-clause-same
-returns-clause-same g c =
-    refl
+pub returns-then-services-gt-MOST_SERVICES-clause-lawful : goal.returns-then-services-gt-MOST_SERVICES-clause-lawful
+returns-then-services-gt-MOST_SERVICES-clause-lawful g c =
+    let d = c.args.self.now in
+    let some = found d _ _ c.ok_or.ensures.ok_part c.in_ok-ring.was in
+    let o = opened d _ some in
+    lawful d d (Warn c.args.services) _ (λ b s w. refuse b (view d) s (Warn c.args.services) w TooManyServices (search rules))
 
-pub returns-clause-law : goal.returns-clause-law
-returns-clause-law g c = carries_on _ _ _ _ (returns-clause-steps g c)
-
-pub returns-clause-account : goal.returns-clause-account
-returns-clause-account g c = accounts_on _ _ (Warn c.args.services) _ (returns-clause-steps g c)
-
-pub returns-then-not-self-clause-law : goal.returns-then-not-self-clause-law
-returns-then-not-self-clause-law g c = carries_on _ _ _ _ (search rules)
-
-pub returns-then-not-self-clause-account : goal.returns-then-not-self-clause-account
-returns-then-not-self-clause-account g c = accounts_on _ _ (Warn c.args.services) _ (search rules)
-
-pub returns-then-services-gt-MOST_SERVICES-clause-law : goal.returns-then-services-gt-MOST_SERVICES-clause-law
-returns-then-services-gt-MOST_SERVICES-clause-law g c = carries_on _ _ _ _ (search rules)
-
-pub returns-then-services-gt-MOST_SERVICES-clause-account : goal.returns-then-services-gt-MOST_SERVICES-clause-account
-returns-then-services-gt-MOST_SERVICES-clause-account g c = accounts_on _ _ (Warn c.args.services) _ (search rules)
+pub returns-clause-lawful : goal.returns-clause-lawful
+returns-clause-lawful g c =
+    let d = c.args.self.now in
+    let some = found d _ _ c.ok_or.ensures.ok_part c.in_ok-ring.was in
+    let o = opened d _ some in
+    lawful d d (Warn c.args.services) _ (λ b s w. warns b (view d) s w o c.args.services _ c.if-services-gt-MOST_SERVICES.false (c.foresee.ensures b s w o))

@@ -14,7 +14,7 @@ returns-in_err-push-clause-account g c = IfOk-from_err c.from_residual.result _ 
 
 pub loop-call-init : goal.loop-call-init
 loop-call-init g c b s =
-    ran_none g.B.Trays.trays g.B.Trays.tray_limit g.B.Trays.total_limit g.B.Item.Timed.interval b c.new-dispatcher.result _ s c.new-events.ensures.items
+    ran_none b c.new-dispatcher.result _ s c.new-events.ensures.items
 
 pub loop-call-preserved : goal.loop-call-preserved
 loop-call-preserved g c b s =
@@ -24,18 +24,18 @@ loop-call-preserved g c b s =
     let so_far = take l.call-index calls in
     let more : take (l.call-index + 1) calls ≡ so_far ++ call ∷ [] =
     take_more calls l.call-index call c.loop-call-test.true ∙ ap (λ x. so_far ++ x ∷ []) (sym c.call-item.is) in
-    let ran = Ran g.B.Trays.trays g.B.Trays.tray_limit g.B.Trays.total_limit g.B.Item.Timed.interval b c.perform.new.self in
+    let ran = Ran b c.perform.new.self in
     subst (λ cs. ran cs (vec_items c.push.new.self)) (sym more)
     (subst (ran (so_far ++ call ∷ [])) (sym c.in_ok-push.ensures.items)
-    (ran_more g.B.Trays.trays g.B.Trays.tray_limit g.B.Trays.total_limit g.B.Item.Timed.interval b l.dispatcher c.perform.new.self so_far (vec_items l.events) call c.perform.result (l.invariant b s) c.perform.ensures.steps))
+    (ran_more b l.dispatcher c.perform.new.self so_far (vec_items l.events) call c.perform.result (l.invariant b s) c.perform.ensures.steps))
 
 pub returns : goal.returns
 returns g c =
     let l = c.loop-call in
     let calls = c.args.calls.now in
-    let b = terms g.B.Trays.trays g.B.Trays.tray_limit g.B.Trays.total_limit g.B.Item.Timed.interval c.args.bank in
-    let v : View g.row.B-Item.Denot = view g.B.Trays.trays g.B.Trays.tray_limit g.B.Trays.total_limit g.B.Item.Timed.interval l.dispatcher in
-    let ran = Ran g.B.Trays.trays g.B.Trays.tray_limit g.B.Trays.total_limit g.B.Item.Timed.interval b l.dispatcher in
+    let b = terms g.B.Trays g.B.Item.Timed c.args.bank in
+    let v : View g.row.B-Item.Denot = view l.dispatcher in
+    let ran = Ran b l.dispatcher in
     let r = subst (λ cs. ran cs (vec_items l.events)) (take_all l.call-index calls c.loop-call-test.false) (l.invariant b c.new-dispatcher.ensures) in
     let f = r.both in
     let h = vec_items l.events in

@@ -8,5 +8,5 @@ use Rattle.dispatcher.proofs.dispatcher.running.run.Given as goal
 -- the calls so far happened as the machine has them, and every one of them led to a dispatcher that obeyed
 abbrev pub invariant-loop-call : goal.invariant-loop-call
 invariant-loop-call g l =
-    (b : Terms g.row.B-Item.Denot) → Shows b (view g.B.Trays.trays g.B.Trays.tray_limit g.B.Trays.total_limit g.B.Item.Timed.interval l.initial.dispatcher) start
-    → Ran g.B.Trays.trays g.B.Trays.tray_limit g.B.Trays.total_limit g.B.Item.Timed.interval b l.dispatcher (take l.call-index l.calls) (vec_items l.events)
+    (b : Terms g.row.B-Item.Denot) → Shows b (view l.initial.dispatcher) start
+    → Ran b l.dispatcher (take l.call-index l.calls) (vec_items l.events)
