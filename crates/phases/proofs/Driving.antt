@@ -6,7 +6,6 @@ use Rattle.messages.specs.declared.refusal.Refusal.TheVariants.{CyclesUsedUp, La
 use Rattle.banks.specs.declared.bank.Trays
 use Rattle.messages.specs.declared.message.Message
 use Rattle.messages.specs.declared.message.Timed
-use Rattle.banks.specs.declared.cell.Cell.{Cell}
 use Rattle.dispatcher.specs.declared.call.Call.{Call}
 use Rattle.dispatcher.specs.declared.call.Call.TheVariants.{Ask, Dispatch, Name, Post, Turn, Warn}
 use Rattle.dispatcher.specs.declared.dispatcher.Dispatcher.{Dispatcher}
@@ -18,7 +17,7 @@ use Rattle.dispatcher.specs.Machine.{State, Terms, first_of, is_empty, limit, ru
 use Rattle.dispatcher.specs.Steps.{Steps}
 use Rattle.dispatcher.specs.Views.{View, view}
 use Rattle.dispatcher.specs.WholeRuns.{Led}
-use Rattle.phases.specs.Calls.{LeavesReport, Turns, left_report}
+use Rattle.phases.specs.Calls.{LeavesReport, Turns, left_report, why_not_left}
 use Rattle.phases.specs.Rounds.{CallsThrough, DrivesRound, LedOn, Stays, after_names, keeps_in_report}
 use Rattle.phases.specs.declared.phase.Detect.{Detect}
 use Rattle.phases.specs.declared.phase.NextCycle.{NextCycle}
@@ -27,7 +26,7 @@ use Rattle.phases.specs.declared.phase.Report.{Report}
 use Rattle.phases.specs.declared.refused.Refused.{Refused}
 use Rattle.phases.specs.declared.round.Round.{Round}
 use Rattle.phases.specs.declared.stop.Held.TheVariants.{InOutput, InReport}
-use Rattle.phases.proofs.Carrying.{ok_not_err}
+use Rattle.phases.proofs.Results.{ok_not_err}
 use Rattle.phases.proofs.Leaving.{asked_waiting}
 use Rattle.phases.proofs.Through.{count_more, led_on, same_cycle, shown_cycle, stays_on}
 
@@ -67,34 +66,31 @@ turn_accepted {M} b m t n q =
     go false false false true f q = absurd (refused_not_turned _ _ _ t n refl q)
     go false false false false f q = (eqb-true t (m.cycle + 1) (not_false _ f), refl)
 
-module _ {B M : Type 0} {bg : Trays.Ghosts B M} {mg : Message.Ghosts M} {ig : Timed.Ghosts M} (trays : B → List (List (Cell M))) (each all : B → ℕ) (interval : M → ℕ) where
-  abbrev seen : Dispatcher B M bg mg ig → View M
-  seen d = view trays each all interval d
-
+module _ {B M : Type 0} {bg : Trays.Ghosts B M} {mg : Message.Ghosts M} {ig : Timed.Ghosts M} where
   -- asked how many wait, and named these
   pub record NamedAll (p : Report) (start named : Dispatcher B M bg mg ig) : Type 0 where
     pub figures : Figures
     pub asked : Dispatcher B M bg mg ig
-    pub ask : Steps trays each all interval start asked Ask (Asked figures)
+    pub ask : Steps start asked Ask (Asked figures)
     pub same : asked ≡ start
-    pub names : CallsThrough trays each all interval p.cycle 0 asked named (replicate figures.waiting Name)
+    pub names : CallsThrough p.cycle 0 asked named (replicate figures.waiting Name)
 
   module _ (p : Report) (start named left : Dispatcher B M bg mg ig) (n : NamedAll p start named) where
-    after_naming : start.cycle ≡ p.cycle → (b : Terms M) (calls : List (Call M)) (h : History M) → Led b (seen start) calls h → Stays b (seen named) (after_names b calls) h p.cycle 0
+    after_naming : (view start).cycle ≡ p.cycle → (b : Terms M) (calls : List (Call M)) (h : History M) → Led b (view start) calls h → Stays b (view named) (after_names b calls) h p.cycle 0
     after_naming e b calls h l =
         let m = (run b calls).state in
         let k : n.figures.waiting ≡ length m.waiting = sym (asked_waiting b m n.figures (n.ask b m l.shows).0) in
-        subst (λ k. Stays b (seen named) (calls ++ replicate k Name) h p.cycle 0) k (n.names.in_cycle (same_cycle n.same ∙ e) b calls h (subst (λ d. Led b (seen d) calls h) (sym n.same) l))
+        subst (λ k. Stays b (view named) (calls ++ replicate k Name) h p.cycle 0) k (n.names.in_cycle (same_cycle n.same ∙ e) b calls h (subst (λ d. Led b (view d) calls h) (sym n.same) l))
 
-    unmoved : (start.cycle ≡ p.cycle → ⊥) → named ≡ start
+    unmoved : ((view start).cycle ≡ p.cycle → ⊥) → named ≡ start
     unmoved f = (n.names.another_cycle (λ e. f (same_cycle (sym n.same) ∙ e))).0 ∙ n.same
 
-    out_of : (w : Bool) → (start.cycle ≡ p.cycle → ⊥) → first_of ((not (eqb named.cycle p.cycle), OutOfPhase) ∷ (not named.«open», Shut) ∷ (w, LateWaiting) ∷ []) ≡ Some OutOfPhase
+    out_of : (w : Bool) → ((view start).cycle ≡ p.cycle → ⊥) → why_not_left p (view named) w ≡ Some OutOfPhase
     out_of w f =
-        cond-true _ _ _ (ap not (ne_eqb named.cycle p.cycle (λ e. f (same_cycle (sym (unmoved f)) ∙ e))))
+        cond-true _ _ _ (ap not (ne_eqb (view named).cycle p.cycle (λ e. f (same_cycle (sym (unmoved f)) ∙ e))))
 
     -- the report phase could not be left
-    pub kept_in_report : (round : Round M) (x : Refused Report) → LeavesReport trays each all interval p named left (Err x) → DrivesRound trays each all interval p start left round (Err (InReport x))
+    pub kept_in_report : (round : Round M) (x : Refused Report) → LeavesReport p named left (Err x) → DrivesRound p start left round (Err (InReport x))
     kept_in_report round x k =
         record {
           another_cycle = λ f. (k.same ∙ unmoved f, ap (λ y. Err (InReport y)) (same_err x _ (k.answer ∙ ap (left_report p) (out_of k.late_waits f))));
@@ -102,37 +98,37 @@ module _ {B M : Type 0} {bg : Trays.Ghosts B M} {mg : Message.Ghosts M} {ig : Ti
               let s = after_naming e b calls h l in
               let m = (run b (after_names b calls)).state in
               let shows = s.on.led.shows in
-              let is_open : m.is_open ≡ named.«open» = ap (λ (y : State M). y.is_open) shows.numbers in
-              let why : first_of ((not (eqb named.cycle p.cycle), OutOfPhase) ∷ (not named.«open», Shut) ∷ (k.late_waits, LateWaiting) ∷ []) ≡ keeps_in_report m =
-              cond-false _ _ _ (ap not (eq-eqb named.cycle p.cycle s.cycle))
+              let is_open : m.is_open ≡ (view named).is_open = ap (λ (y : State M). y.is_open) shows.numbers in
+              let why : why_not_left p (view named) k.late_waits ≡ keeps_in_report m =
+              cond-false _ _ _ (ap not (eq-eqb (view named).cycle p.cycle s.cycle))
               ∙ ap (λ o. first_of ((not o, Shut) ∷ (k.late_waits, LateWaiting) ∷ [])) (sym is_open)
               ∙ ap (λ w. first_of ((not m.is_open, Shut) ∷ (w, LateWaiting) ∷ [])) (k.is_so b m shows) in
               let a = left_err p (keeps_in_report m) x (k.answer ∙ ap (left_report p) why) in
-              record { on = subst (λ d. LedOn b (seen d) (after_names b calls) h) (sym k.same) s.on; cycle = same_cycle k.same ∙ s.cycle; phase = a.1; why = a.0 };
+              record { on = subst (λ d. LedOn b (view d) (after_names b calls) h) (sym k.same) s.on; cycle = same_cycle k.same ∙ s.cycle; phase = a.1; why = a.0 };
         }
 
     -- it was left, and the work of the round is done
-    module _ (round : Round M) (detect : Detect) (k : LeavesReport trays each all interval p named left (Ok detect)) (posted worked after : Dispatcher B M bg mg ig) (output : Output)
-        (posts : CallsThrough trays each all interval detect.cycle 0 left posted (map Post round.messages.now))
-        (work : CallsThrough trays each all interval detect.cycle output.dispatched posted worked (Warn round.services ∷ replicate round.dispatches Dispatch))
+    module _ (round : Round M) (detect : Detect) (k : LeavesReport p named left (Ok detect)) (posted worked after : Dispatcher B M bg mg ig) (output : Output)
+        (posts : CallsThrough detect.cycle 0 left posted (map Post round.messages.now))
+        (work : CallsThrough detect.cycle output.dispatched posted worked (Warn round.services ∷ replicate round.dispatches Dispatch))
         (in_cycle : output.cycle ≡ detect.cycle) where
       in_phase : detect.cycle ≡ p.cycle
       in_phase = (left_ok p _ detect k.answer).1
 
-      never : (start.cycle ≡ p.cycle → ⊥) → ⊥
+      never : ((view start).cycle ≡ p.cycle → ⊥) → ⊥
       never f = none_not_some _ OutOfPhase (left_ok p _ detect k.answer).0 (out_of k.late_waits f)
 
       abbrev work_done : Terms M → List (Call M) → List (Call M)
       work_done b calls =
           (after_names b calls ++ map Post round.messages.now) ++ Warn round.services ∷ replicate round.dispatches Dispatch
 
-      after_work : start.cycle ≡ p.cycle → (b : Terms M) (calls : List (Call M)) (h : History M) → Led b (seen start) calls h → Stays b (seen worked) (work_done b calls) h p.cycle output.dispatched
+      after_work : (view start).cycle ≡ p.cycle → (b : Terms M) (calls : List (Call M)) (h : History M) → Led b (view start) calls h → Stays b (view worked) (work_done b calls) h p.cycle output.dispatched
       after_work e b calls h l =
-          let s = subst (λ d. Stays b (seen d) (after_names b calls) h p.cycle 0) (sym k.same) (after_naming e b calls h l) in
-          let t = stays_on trays each all interval p.cycle 0 left posted _ b _ h s (subst (λ z. CallsThrough trays each all interval z 0 left posted (map Post round.messages.now)) in_phase posts) in
-          stays_on trays each all interval p.cycle output.dispatched posted worked _ b _ h t (subst (λ z. CallsThrough trays each all interval z output.dispatched posted worked (Warn round.services ∷ replicate round.dispatches Dispatch)) in_phase work)
+          let s = subst (λ d. Stays b (view d) (after_names b calls) h p.cycle 0) (sym k.same) (after_naming e b calls h l) in
+          let t = stays_on p.cycle 0 left posted _ b _ h s (subst (λ z. CallsThrough z 0 left posted (map Post round.messages.now)) in_phase posts) in
+          stays_on p.cycle output.dispatched posted worked _ b _ h t (subst (λ z. CallsThrough z output.dispatched posted worked (Warn round.services ∷ replicate round.dispatches Dispatch)) in_phase work)
 
-      pub turned_on : (next : NextCycle) → Turns trays each all interval output worked after round.cycle (Ok next) → DrivesRound trays each all interval p start after round (Ok next.report)
+      pub turned_on : (next : NextCycle) → Turns output worked after round.cycle (Ok next) → DrivesRound p start after round (Ok next.report)
       turned_on next t =
           record {
             another_cycle = λ f. absurd (never f);
@@ -142,19 +138,19 @@ module _ {B M : Type 0} {bg : Trays.Ghosts B M} {mg : Message.Ghosts M} {ig : Ti
                 let m = (run b cs).state in
                 let more = s.on.more in
                 let a = Turned round.cycle next.late in
-                let z : worked.cycle ≡ output.cycle = s.cycle ∙ sym (in_cycle ∙ in_phase) in
+                let z : (view worked).cycle ≡ output.cycle = s.cycle ∙ sym (in_cycle ∙ in_phase) in
                 let y = ((t.call.own_call z).law b cs (h ++ more) s.on.led).0 in
                 let st = (t.call.own_call z).steps b m s.on.led.shows in
                 let told = turn_accepted b m round.cycle next.late st.0 in
-                let one : round.cycle ≡ p.cycle + 1 = told.0 ∙ ap (λ x. x + 1) (shown_cycle b (seen worked) m s.on.led.shows ∙ s.cycle) in
+                let one : round.cycle ≡ p.cycle + 1 = told.0 ∙ ap (λ x. x + 1) (shown_cycle b (view worked) m s.on.led.shows ∙ s.cycle) in
                 record {
-                  on = led_on b (seen after) (cs ++ Turn round.cycle ∷ []) h (more ++ a ∷ []) (subst (Led b (seen after) (cs ++ Turn round.cycle ∷ [])) (append_assoc h more (a ∷ [])) y);
-                  cycle = sym (shown_cycle b (seen after) _ st.1) ∙ told.1 ∙ one;
+                  on = led_on b (view after) (cs ++ Turn round.cycle ∷ []) h (more ++ a ∷ []) (subst (Led b (view after) (cs ++ Turn round.cycle ∷ [])) (append_assoc h more (a ∷ [])) y);
+                  cycle = sym (shown_cycle b (view after) _ st.1) ∙ told.1 ∙ one;
                   phase = t.phase ∙ one;
                 };
           }
 
-      pub kept_in_output : (x : Refused Output) → Turns trays each all interval output worked after round.cycle (Err x) → DrivesRound trays each all interval p start after round (Err (InOutput x))
+      pub kept_in_output : (x : Refused Output) → Turns output worked after round.cycle (Err x) → DrivesRound p start after round (Err (InOutput x))
       kept_in_output x t =
           record {
             another_cycle = λ f. absurd (never f);
@@ -163,10 +159,10 @@ module _ {B M : Type 0} {bg : Trays.Ghosts B M} {mg : Message.Ghosts M} {ig : Ti
                 let cs = work_done b calls in
                 let more = s.on.more in
                 let a = Refused-call (Turn round.cycle) x.refusal in
-                let z : worked.cycle ≡ output.cycle = s.cycle ∙ sym (in_cycle ∙ in_phase) in
+                let z : (view worked).cycle ≡ output.cycle = s.cycle ∙ sym (in_cycle ∙ in_phase) in
                 let y = ((t.call.own_call z).law b cs (h ++ more) s.on.led).0 in
                 record {
-                  on = led_on b (seen after) (cs ++ Turn round.cycle ∷ []) h (more ++ a ∷ []) (subst (Led b (seen after) (cs ++ Turn round.cycle ∷ [])) (append_assoc h more (a ∷ [])) y);
+                  on = led_on b (view after) (cs ++ Turn round.cycle ∷ []) h (more ++ a ∷ []) (subst (Led b (view after) (cs ++ Turn round.cycle ∷ [])) (append_assoc h more (a ∷ [])) y);
                   cycle = same_cycle (t.call.same tt) ∙ s.cycle;
                   phase = ap (λ (o : Output). o.cycle) t.phase ∙ in_cycle ∙ in_phase;
                   count = ap (λ (o : Output). o.dispatched) t.phase ∙ count_more more a output.dispatched s.count;

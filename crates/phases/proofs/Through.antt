@@ -5,7 +5,6 @@ use Rattle.messages.specs.declared.refusal.Refusal.{Refusal}
 use Rattle.banks.specs.declared.bank.Trays
 use Rattle.messages.specs.declared.message.Message
 use Rattle.messages.specs.declared.message.Timed
-use Rattle.banks.specs.declared.cell.Cell.{Cell}
 use Rattle.dispatcher.specs.declared.call.Call.{Call}
 use Rattle.dispatcher.specs.declared.call.Call.TheVariants.{Dispatch, Name, Post, Warn}
 use Rattle.dispatcher.specs.declared.dispatcher.Dispatcher.{Dispatcher}
@@ -74,8 +73,8 @@ module _ {M : Type 0} where
   abbrev pub led_on : (b : Terms M) (w : View M) (calls : List (Call M)) (h more : History M) → Led b w calls (h ++ more) → LedOn b w calls h
   led_on b w calls h more l = record { more = more; led = l; law = follows_obeys b w calls (h ++ more) l; account = follows_accounts b w calls (h ++ more) l }
 
-pub same_cycle : {B M : Type 0} {bg : Trays.Ghosts B M} {mg : Message.Ghosts M} {ig : Timed.Ghosts M} {u v : Dispatcher B M bg mg ig} → u ≡ v → u.cycle ≡ v.cycle
-same_cycle {B} {M} {bg} {mg} {ig} e = ap (λ (d : Dispatcher B M bg mg ig). d.cycle) e
+pub same_cycle : {B M : Type 0} {bg : Trays.Ghosts B M} {mg : Message.Ghosts M} {ig : Timed.Ghosts M} {u v : Dispatcher B M bg mg ig} → u ≡ v → (view u).cycle ≡ (view v).cycle
+same_cycle {B} {M} {bg} {mg} {ig} e = ap (λ (d : Dispatcher B M bg mg ig). (view d).cycle) e
 
 -- a count after an event
 abbrev pub told_count : {M : Type 0} → ℕ → Event M → ℕ
@@ -110,29 +109,26 @@ count_join h k n z e =
     let none : count_by gives_out h ≡ 0 = omega arith in
     e ∙ ap (λ x. min x 4000000000) (omega arith)
 
-module _ {B M : Type 0} {bg : Trays.Ghosts B M} {mg : Message.Ghosts M} {ig : Timed.Ghosts M} (trays : B → List (List (Cell M))) (each all : B → ℕ) (interval : M → ℕ) where
-  abbrev seen : Dispatcher B M bg mg ig → View M
-  seen d = view trays each all interval d
-
-  pub none_through : (z n : ℕ) (d : Dispatcher B M bg mg ig) → n ≡ 0 → CallsThrough trays each all interval z n d d []
+module _ {B M : Type 0} {bg : Trays.Ghosts B M} {mg : Message.Ghosts M} {ig : Timed.Ghosts M} where
+  pub none_through : (z n : ℕ) (d : Dispatcher B M bg mg ig) → n ≡ 0 → CallsThrough z n d d []
   none_through z n d zero-given =
       record {
         another_cycle = λ _. (refl, zero-given);
         in_cycle = λ e b calls h l.
             record {
-              on = led_on b (seen d) (calls ++ []) h [] (subst (λ cs. Led b (seen d) cs (h ++ [])) (sym (append-nil calls)) (subst (Led b (seen d) calls) (sym (append-nil h)) l));
+              on = led_on b (view d) (calls ++ []) h [] (subst (λ cs. Led b (view d) cs (h ++ [])) (sym (append-nil calls)) (subst (Led b (view d) calls) (sym (append-nil h)) l));
               cycle = e;
               count = zero-given;
             };
       }
 
-  failed : {X : Type 0} (v w : Dispatcher B M bg mg ig) (z : ℕ) (c : Call M) (accepted : X → Event M) (r : Result X Refusal) (n : ℕ) → Called trays each all interval z v w c accepted r → (v.cycle ≡ z → ⊥) → (w ≡ v) × (told_count n (answered c accepted r) ≡ n)
+  failed : {X : Type 0} (v w : Dispatcher B M bg mg ig) (z : ℕ) (c : Call M) (accepted : X → Event M) (r : Result X Refusal) (n : ℕ) → Called z v w c accepted r → ((view v).cycle ≡ z → ⊥) → (w ≡ v) × (told_count n (answered c accepted r) ≡ n)
   failed v w z c accepted r n k f =
       let e = k.another_cycle f in
       (k.same (subst Fails (sym e) tt), ap (λ r. told_count n (answered c accepted r)) e)
 
   -- one call more
-  pub one_through : {X : Type 0} (z n n' : ℕ) (u v w : Dispatcher B M bg mg ig) (made : List (Call M)) (c : Call M) (accepted : X → Event M) (r : Result X Refusal) → KeepsCycle c → CallsThrough trays each all interval z n u v made → Called trays each all interval z v w c accepted r → n' ≡ told_count n (answered c accepted r) → CallsThrough trays each all interval z n' u w (made ++ c ∷ [])
+  pub one_through : {X : Type 0} (z n n' : ℕ) (u v w : Dispatcher B M bg mg ig) (made : List (Call M)) (c : Call M) (accepted : X → Event M) (r : Result X Refusal) → KeepsCycle c → CallsThrough z n u v made → Called z v w c accepted r → n' ≡ told_count n (answered c accepted r) → CallsThrough z n' u w (made ++ c ∷ [])
   one_through z n n' u v w made c accepted r keeps t k count =
       record {
         another_cycle = λ f.
@@ -145,29 +141,29 @@ module _ {B M : Type 0} {bg : Trays.Ghosts B M} {mg : Message.Ghosts M} {ig : Ti
             let more = s.on.more in
             let y = (k.own_call s.cycle).law b (calls ++ made) (h ++ more) s.on.led in
             record {
-              on = led_on b (seen w) (calls ++ (made ++ c ∷ [])) h (more ++ a ∷ []) (subst (λ cs. Led b (seen w) cs (h ++ (more ++ a ∷ []))) (append_assoc calls made (c ∷ [])) (subst (Led b (seen w) ((calls ++ made) ++ c ∷ [])) (append_assoc h more (a ∷ [])) y.0));
-              cycle = stays_in_cycle b (seen v) (seen w) (run b (calls ++ made)).state c a keeps s.on.led.shows (k.own_call s.cycle).steps ∙ s.cycle;
+              on = led_on b (view w) (calls ++ (made ++ c ∷ [])) h (more ++ a ∷ []) (subst (λ cs. Led b (view w) cs (h ++ (more ++ a ∷ []))) (append_assoc calls made (c ∷ [])) (subst (Led b (view w) ((calls ++ made) ++ c ∷ [])) (append_assoc h more (a ∷ [])) y.0));
+              cycle = stays_in_cycle b (view v) (view w) (run b (calls ++ made)).state c a keeps s.on.led.shows (k.own_call s.cycle).steps ∙ s.cycle;
               count = count ∙ count_more more a n s.count;
             };
       }
 
   -- after calls that gave nothing out
-  pub stays_on : (z n : ℕ) (v w : Dispatcher B M bg mg ig) (next : List (Call M)) (b : Terms M) (calls : List (Call M)) (h : History M) → Stays b (seen v) calls h z 0 → CallsThrough trays each all interval z n v w next → Stays b (seen w) (calls ++ next) h z n
+  pub stays_on : (z n : ℕ) (v w : Dispatcher B M bg mg ig) (next : List (Call M)) (b : Terms M) (calls : List (Call M)) (h : History M) → Stays b (view v) calls h z 0 → CallsThrough z n v w next → Stays b (view w) (calls ++ next) h z n
   stays_on z n v w next b calls h s k =
       let x = k.in_cycle s.cycle b calls (h ++ s.on.more) s.on.led in
       let more = s.on.more ++ x.on.more in
       record {
-        on = led_on b (seen w) (calls ++ next) h more (subst (Led b (seen w) (calls ++ next)) (append_assoc h s.on.more x.on.more) x.on.led);
+        on = led_on b (view w) (calls ++ next) h more (subst (Led b (view w) (calls ++ next)) (append_assoc h s.on.more x.on.more) x.on.led);
         cycle = x.cycle;
         count = count_join s.on.more x.on.more n s.count x.count;
       }
 
-  pub join_through : (z n : ℕ) (u v w : Dispatcher B M bg mg ig) (made next : List (Call M)) → CallsThrough trays each all interval z 0 u v made → CallsThrough trays each all interval z n v w next → CallsThrough trays each all interval z n u w (made ++ next)
+  pub join_through : (z n : ℕ) (u v w : Dispatcher B M bg mg ig) (made next : List (Call M)) → CallsThrough z 0 u v made → CallsThrough z n v w next → CallsThrough z n u w (made ++ next)
   join_through z n u v w made next t k =
       record {
         another_cycle = λ f.
             let o = t.another_cycle f in
             let x = k.another_cycle (λ e. f (same_cycle (sym o.0) ∙ e)) in (x.0 ∙ o.0, x.1);
         in_cycle = λ e b calls h l.
-            subst (λ cs. Stays b (seen w) cs h z n) (append_assoc calls made next) (stays_on z n v w next b (calls ++ made) h (t.in_cycle e b calls h l) k);
+            subst (λ cs. Stays b (view w) cs h z n) (append_assoc calls made next) (stays_on z n v w next b (calls ++ made) h (t.in_cycle e b calls h l) k);
       }

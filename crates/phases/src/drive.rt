@@ -14,7 +14,7 @@ use messages::message::Timed;
 fn name_times<B: Bank>(report: &Report, dispatcher: &mut Dispatcher<B>, times: usize)
 where
     B::Item: Timed,
-    ensures { CallsThrough B.Trays.trays B.Trays.tray_limit B.Trays.total_limit B.Item.Timed.interval report.now.cycle 0 dispatcher.old dispatcher.new (replicate times Name) }
+    ensures { CallsThrough report.now.cycle 0 dispatcher.old dispatcher.new (replicate times Name) }
 {
     for _ in 0..times {
         let _ = report.name(dispatcher);
@@ -24,7 +24,7 @@ where
 fn post_all<B: Bank>(detect: &Detect, dispatcher: &mut Dispatcher<B>, messages: &[B::Item])
 where
     B::Item: Timed,
-    ensures { CallsThrough B.Trays.trays B.Trays.tray_limit B.Trays.total_limit B.Item.Timed.interval detect.now.cycle 0 dispatcher.old dispatcher.new (map Post messages.now) }
+    ensures { CallsThrough detect.now.cycle 0 dispatcher.old dispatcher.new (map Post messages.now) }
 {
     for message in messages {
         let _ = detect.post(dispatcher, *message);
@@ -39,7 +39,7 @@ fn react_to<B: Bank>(
 ) -> Output
 where
     B::Item: Timed,
-    ensures calls { CallsThrough B.Trays.trays B.Trays.tray_limit B.Trays.total_limit B.Item.Timed.interval detect.cycle result.dispatched dispatcher.old dispatcher.new (Warn round.entry.services ∷ replicate round.entry.dispatches Dispatch) }
+    ensures calls { CallsThrough detect.cycle result.dispatched dispatcher.old dispatcher.new (Warn round.entry.services ∷ replicate round.entry.dispatches Dispatch) }
     ensures phase { result.cycle ≡ detect.cycle }
 {
     let mut react = detect.react();
@@ -59,7 +59,7 @@ pub fn drive_round<B: Bank>(
 ) -> Result<Report, Held>
 where
     B::Item: Timed,
-    ensures { DrivesRound B.Trays.trays B.Trays.tray_limit B.Trays.total_limit B.Item.Timed.interval report dispatcher.old dispatcher.new round.entry result }
+    ensures { DrivesRound report dispatcher.old dispatcher.new round.entry result }
 {
     let waiting = dispatcher.ask().waiting;
     name_times(&report, dispatcher, waiting);
@@ -78,7 +78,7 @@ pub fn drive<B: Bank>(
 ) -> Result<Report, Stop>
 where
     B::Item: Timed,
-    ensures { Drives B.Trays.trays B.Trays.tray_limit B.Trays.total_limit B.Item.Timed.interval report dispatcher.old dispatcher.new rounds.now result }
+    ensures { Drives report dispatcher.old dispatcher.new rounds.now result }
 {
     for (round, inputs) in rounds.iter().enumerate() {
         report = drive_round(report, dispatcher, *inputs).map_err(|held| Stop { round, held })?;

@@ -3,6 +3,7 @@
 // A phase carries the cycle that it is of. None of them can be copied, and none can be let go: each is handed over to
 // reach the next one.
 ghost use Rattle.std.specs.Prelude.{◌≡◌, ◌≢◌, ◌≤◌, IfErr, OnOk};
+ghost use Rattle.dispatcher.specs.Views.{view};
 ghost use Rattle.messages.specs.declared.refusal.Refusal.TheVariants.{OutOfPhase};
 
 use banks::bank::Bank;
@@ -56,8 +57,8 @@ pub struct NextCycle {
 fn in_cycle<B: Bank>(dispatcher: &Dispatcher<B>, cycle: u32) -> Result<(), Refusal>
 where
     B::Item: Timed,
-    ensures ok { OnOk result (dispatcher.now.cycle ≡ cycle) }
-    ensures err { IfErr result (λ refusal. (refusal ≡ OutOfPhase) × (dispatcher.now.cycle ≢ cycle)) }
+    ensures ok { OnOk result ((view dispatcher.now).cycle ≡ cycle) }
+    ensures err { IfErr result (λ refusal. (refusal ≡ OutOfPhase) × ((view dispatcher.now).cycle ≢ cycle)) }
 {
     if dispatcher.cycle() == cycle {
         Ok(())

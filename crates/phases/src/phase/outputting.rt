@@ -27,7 +27,7 @@ impl Output {
     ) -> Result<NextCycle, Refused<Output>>
     where
         B::Item: Timed,
-        ensures { Turns B.Trays.trays B.Trays.tray_limit B.Trays.total_limit B.Item.Timed.interval self dispatcher.old dispatcher.new cycle result }
+        ensures { Turns self dispatcher.old dispatcher.new cycle result }
     {
         // A phase may not be let go, so no `?` passes a refusal on while `self` is held.
         match self.turn_on(dispatcher, cycle) {
@@ -49,7 +49,7 @@ impl Output {
     fn turn_on<B: Bank>(&self, dispatcher: &mut Dispatcher<B>, cycle: u32) -> Result<usize, Refusal>
     where
         B::Item: Timed,
-        ensures { Called B.Trays.trays B.Trays.tray_limit B.Trays.total_limit B.Item.Timed.interval self.now.cycle dispatcher.old dispatcher.new (Turn cycle) (Turned cycle) result }
+        ensures { Called self.now.cycle dispatcher.old dispatcher.new (Turn cycle) (Turned cycle) result }
     {
         in_cycle(dispatcher, self.cycle)?;
         dispatcher.turn(cycle)

@@ -22,7 +22,7 @@ impl React {
     ) -> Result<Option<Entry<B::Item>>, Refusal>
     where
         B::Item: Timed,
-        ensures call { Called B.Trays.trays B.Trays.tray_limit B.Trays.total_limit B.Item.Timed.interval self.old.cycle dispatcher.old dispatcher.new Dispatch Dispatched result }
+        ensures call { Called self.old.cycle dispatcher.old dispatcher.new Dispatch Dispatched result }
         ensures cycle { self.new.cycle ≡ self.old.cycle }
         ensures count { self.new.dispatched ≡ counted self.old.dispatched result }
     {
@@ -42,7 +42,7 @@ impl React {
     ) -> Result<Option<Warning>, Refusal>
     where
         B::Item: Timed,
-        ensures call { Called B.Trays.trays B.Trays.tray_limit B.Trays.total_limit B.Item.Timed.interval self.now.cycle dispatcher.old dispatcher.new (Warn services) (Warned services) result }
+        ensures call { Called self.now.cycle dispatcher.old dispatcher.new (Warn services) (Warned services) result }
         ensures same { dispatcher.new ≡ dispatcher.old }
     {
         in_cycle(dispatcher, self.cycle)?;

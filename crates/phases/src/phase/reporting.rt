@@ -5,6 +5,7 @@ ghost use Rattle.dispatcher.specs.WholeRuns.{LawfulCall};
 ghost use Rattle.dispatcher.specs.Answers.{answered};
 ghost use Rattle.dispatcher.specs.declared.call.Call.TheVariants.{Begin, Name};
 ghost use Rattle.dispatcher.specs.declared.event.Event.TheVariants.{Begun, Named};
+ghost use Rattle.dispatcher.specs.Views.{view};
 ghost use Rattle.phases.specs.Calls.{Called, LeavesReport, leaving};
 
 use crate::phase::{Detect, Report, in_cycle};
@@ -20,9 +21,9 @@ impl Report {
     pub fn begin<B: Bank>(dispatcher: &mut Dispatcher<B>) -> Result<Report, Refusal>
     where
         B::Item: Timed,
-        ensures lawful { LawfulCall B.Trays.trays B.Trays.tray_limit B.Trays.total_limit B.Item.Timed.interval dispatcher.old dispatcher.new Begin (answered Begin (λ _. Begun) result) }
+        ensures lawful { LawfulCall dispatcher.old dispatcher.new Begin (answered Begin (λ _. Begun) result) }
         ensures same { Fails result → dispatcher.new ≡ dispatcher.old }
-        ensures phase { IfOk result (λ p. p.cycle ≡ dispatcher.new.cycle) }
+        ensures phase { IfOk result (λ p. p.cycle ≡ (view dispatcher.new).cycle) }
     {
         dispatcher.begin()?;
         Ok(Report {
@@ -37,7 +38,7 @@ impl Report {
     ) -> Result<Option<Entry<B::Item>>, Refusal>
     where
         B::Item: Timed,
-        ensures { Called B.Trays.trays B.Trays.tray_limit B.Trays.total_limit B.Item.Timed.interval self.now.cycle dispatcher.old dispatcher.new Name Named result }
+        ensures { Called self.now.cycle dispatcher.old dispatcher.new Name Named result }
     {
         in_cycle(dispatcher, self.cycle)?;
         dispatcher.name()
@@ -47,7 +48,7 @@ impl Report {
     pub fn detect<B: Bank>(self, dispatcher: &mut Dispatcher<B>) -> Result<Detect, Refused<Report>>
     where
         B::Item: Timed,
-        ensures { LeavesReport B.Trays.trays B.Trays.tray_limit B.Trays.total_limit B.Item.Timed.interval self dispatcher.old dispatcher.new result }
+        ensures { LeavesReport self dispatcher.old dispatcher.new result }
     {
         // A phase may not be let go, so no `?` passes a refusal on while `self` is held.
         match may_be_left(dispatcher, self.cycle) {
@@ -76,7 +77,7 @@ impl Report {
 fn may_be_left<B: Bank>(dispatcher: &mut Dispatcher<B>, cycle: u32) -> Result<(), Refusal>
 where
     B::Item: Timed,
-    ensures { LeavesReport B.Trays.trays B.Trays.tray_limit B.Trays.total_limit B.Item.Timed.interval (record { cycle = cycle }) dispatcher.old dispatcher.new (leaving (record { cycle = cycle }) result) }
+    ensures { LeavesReport (record { cycle = cycle }) dispatcher.old dispatcher.new (leaving (record { cycle = cycle }) result) }
 {
     let waiting = dispatcher.ask().waiting;
     in_cycle(dispatcher, cycle)?;

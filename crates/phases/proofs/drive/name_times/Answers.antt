@@ -8,16 +8,16 @@ use Rattle.phases.proofs.drive.name_times.Goals as goal
 
 pub loop-init : goal.loop-init
 loop-init g c =
-    none_through g.B.Trays.trays g.B.Trays.tray_limit g.B.Trays.total_limit g.B.Item.Timed.interval c.args.report.now.cycle 0 c.args.dispatcher.now refl
+    none_through c.args.report.now.cycle 0 c.args.dispatcher.now refl
 
 pub loop-preserved : goal.loop-preserved
 loop-preserved g c =
     let l = c.loop in
-    subst (CallsThrough g.B.Trays.trays g.B.Trays.tray_limit g.B.Trays.total_limit g.B.Item.Timed.interval c.args.report.now.cycle 0 c.args.dispatcher.now c.name.new.dispatcher) (replicate_more l.counter Name)
-    (one_through g.B.Trays.trays g.B.Trays.tray_limit g.B.Trays.total_limit g.B.Item.Timed.interval c.args.report.now.cycle 0 0 c.args.dispatcher.now l.dispatcher c.name.new.dispatcher (replicate l.counter Name) Name (λ x. Named x) c.name.result keeps_name l.invariant c.name.ensures (sym (quiet 0 Name (λ x. Named x) c.name.result (λ x. refl))))
+    subst (CallsThrough c.args.report.now.cycle 0 c.args.dispatcher.now c.name.new.dispatcher) (replicate_more l.counter Name)
+    (one_through c.args.report.now.cycle 0 0 c.args.dispatcher.now l.dispatcher c.name.new.dispatcher (replicate l.counter Name) Name (λ x. Named x) c.name.result keeps_name l.invariant c.name.ensures (sym (quiet 0 Name (λ x. Named x) c.name.result (λ x. refl))))
 
 pub returns : goal.returns
 returns g c =
     let l = c.loop in
     let e : l.counter ≡ c.args.times = omega arith in
-    subst (λ n. CallsThrough g.B.Trays.trays g.B.Trays.tray_limit g.B.Trays.total_limit g.B.Item.Timed.interval c.args.report.now.cycle 0 c.args.dispatcher.now l.dispatcher (replicate n Name)) e l.invariant
+    subst (λ n. CallsThrough c.args.report.now.cycle 0 c.args.dispatcher.now l.dispatcher (replicate n Name)) e l.invariant
