@@ -7,6 +7,9 @@ pub err_is : {X E : Type 0} (r : Result X E) (e : E) → IsErrAnd r (λ x. x ≡
 err_is (Ok x) e h = absurd h
 err_is (Err x) e h = ap (λ y. Err y) h
 
+pub same_err : {X Y : Type 0} (x y : Y) → ◌≡◌ {A = Result X Y} (Err x) (Err y) → x ≡ y
+same_err x y e = cc
+
 pub ok_not_err : {X Y : Type 0} (x : X) (y : Y) → ◌≡◌ {A = Result X Y} (Ok x) (Err y) → ⊥
 ok_not_err x y e = let z : ◌≡◌ {A = ℕ} 0 1 = cc in omega arith
 

@@ -13,7 +13,7 @@ use Rattle.dispatcher.specs.declared.event.Event.{Event}
 use Rattle.dispatcher.specs.declared.event.Event.TheVariants.{Dispatched}
 use Rattle.dispatcher.specs.Answers.{answered}
 use Rattle.dispatcher.specs.History.{History, gives_out}
-use Rattle.dispatcher.specs.Machine.{State, Terms, run, serve, soonest, step, tell, unless}
+use Rattle.dispatcher.specs.Machine.{State, Terms, act, run, serve, soonest, step, tell, unless}
 use Rattle.dispatcher.specs.Shown.{Shows}
 use Rattle.dispatcher.specs.Steps.{Fails, Simulates}
 use Rattle.dispatcher.specs.Views.{View, view}
@@ -27,41 +27,33 @@ abbrev pub KeepsCycle : {M : Type 0} → Call M → Type 0
 KeepsCycle {M} c = (b : Terms M) (m : State M) → (step b m c).1.cycle ≡ m.cycle
 
 module _ {M : Type 0} where
-  pub keeps_name : KeepsCycle {M = M} Name
-  keeps_name b m = go _
+  -- since a refused call changes nothing
+  keeps : (c : Call M) → ((b : Terms M) (m : State M) → (act b m c).1.cycle ≡ m.cycle) → KeepsCycle c
+  keeps c k b m = go _
     where
-      tells : (es : List (Entry M)) → (tell m es).1.cycle ≡ m.cycle
-      tells [] = refl
-      tells (e ∷ es) = refl
+      go : (o : Option Refusal) → (unless b m c o).1.cycle ≡ m.cycle
+      go (Some r) = refl
+      go None = k b m
 
-      go : (o : Option Refusal) → (unless b m Name o).1.cycle ≡ m.cycle
-      go (Some k) = refl
-      go None = tells m.waiting
+  pub keeps_name : KeepsCycle {M = M} Name
+  keeps_name = keeps Name (λ b m. tells m m.waiting)
+    where
+      tells : (m : State M) (es : List (Entry M)) → (tell m es).1.cycle ≡ m.cycle
+      tells m [] = refl
+      tells m (e ∷ es) = refl
 
   pub keeps_post : (x : M) → KeepsCycle (Post x)
-  keeps_post x b m = go _
-    where
-      go : (o : Option Refusal) → (unless b m (Post x) o).1.cycle ≡ m.cycle
-      go (Some k) = refl
-      go None = refl
+  keeps_post x = keeps (Post x) (λ b m. refl)
 
   pub keeps_warn : (n : ℕ) → KeepsCycle {M = M} (Warn n)
-  keeps_warn n b m = go _
-    where
-      go : (o : Option Refusal) → (unless b m (Warn n) o).1.cycle ≡ m.cycle
-      go (Some k) = refl
-      go None = refl
+  keeps_warn n = keeps (Warn n) (λ b m. refl)
 
   pub keeps_dispatch : KeepsCycle {M = M} Dispatch
-  keeps_dispatch b m = go _
+  keeps_dispatch = keeps Dispatch (λ b m. serves m (soonest m.pending))
     where
-      serves : (o : Option (Entry M)) → (serve m o).1.cycle ≡ m.cycle
-      serves None = refl
-      serves (Some e) = refl
-
-      go : (o : Option Refusal) → (unless b m Dispatch o).1.cycle ≡ m.cycle
-      go (Some k) = refl
-      go None = serves (soonest m.pending)
+      serves : (m : State M) (o : Option (Entry M)) → (serve m o).1.cycle ≡ m.cycle
+      serves m None = refl
+      serves m (Some e) = refl
 
   pub shown_cycle : (b : Terms M) (v : View M) (m : State M) → Shows b v m → m.cycle ≡ v.cycle
   shown_cycle b v m s = ap (λ (x : State M). x.cycle) s.numbers
@@ -110,8 +102,8 @@ count_join h k n z e =
     e ∙ ap (λ x. min x 4000000000) (omega arith)
 
 module _ {B M : Type 0} {bg : Trays.Ghosts B M} {mg : Message.Ghosts M} {ig : Timed.Ghosts M} where
-  pub none_through : (z n : ℕ) (d : Dispatcher B M bg mg ig) → n ≡ 0 → CallsThrough z n d d []
-  none_through z n d zero-given =
+  pub none_through : {z n : ℕ} {d : Dispatcher B M bg mg ig} → n ≡ 0 → CallsThrough z n d d []
+  none_through {d = d} zero-given =
       record {
         another_cycle = λ _. (refl, zero-given);
         in_cycle = λ e b calls h l.
@@ -122,18 +114,18 @@ module _ {B M : Type 0} {bg : Trays.Ghosts B M} {mg : Message.Ghosts M} {ig : Ti
             };
       }
 
-  failed : {X : Type 0} (v w : Dispatcher B M bg mg ig) (z : ℕ) (c : Call M) (accepted : X → Event M) (r : Result X Refusal) (n : ℕ) → Called z v w c accepted r → ((view v).cycle ≡ z → ⊥) → (w ≡ v) × (told_count n (answered c accepted r) ≡ n)
-  failed v w z c accepted r n k f =
+  failed : {X : Type 0} {v w : Dispatcher B M bg mg ig} {z : ℕ} {c : Call M} {accepted : X → Event M} {r : Result X Refusal} (n : ℕ) → Called z v w c accepted r → ((view v).cycle ≡ z → ⊥) → (w ≡ v) × (told_count n (answered c accepted r) ≡ n)
+  failed {c = c} {accepted = accepted} n k f =
       let e = k.another_cycle f in
       (k.same (subst Fails (sym e) tt), ap (λ r. told_count n (answered c accepted r)) e)
 
   -- one call more
-  pub one_through : {X : Type 0} (z n n' : ℕ) (u v w : Dispatcher B M bg mg ig) (made : List (Call M)) (c : Call M) (accepted : X → Event M) (r : Result X Refusal) → KeepsCycle c → CallsThrough z n u v made → Called z v w c accepted r → n' ≡ told_count n (answered c accepted r) → CallsThrough z n' u w (made ++ c ∷ [])
-  one_through z n n' u v w made c accepted r keeps t k count =
+  pub one_through : {X : Type 0} {z n n' : ℕ} {u v w : Dispatcher B M bg mg ig} {made : List (Call M)} {c : Call M} {accepted : X → Event M} {r : Result X Refusal} → KeepsCycle c → CallsThrough z n u v made → Called z v w c accepted r → n' ≡ told_count n (answered c accepted r) → CallsThrough z n' u w (made ++ c ∷ [])
+  one_through {n = n} {v = v} {w = w} {made = made} {c = c} {accepted = accepted} {r = r} keeps t k count =
       record {
         another_cycle = λ f.
             let o = t.another_cycle f in
-            let x = failed v w z c accepted r n k (λ e. f (same_cycle (sym o.0) ∙ e)) in
+            let x = failed n k (λ e. f (same_cycle (sym o.0) ∙ e)) in
             (x.0 ∙ o.0, count ∙ x.1 ∙ o.1);
         in_cycle = λ e b calls h l.
             let s = t.in_cycle e b calls h l in
@@ -147,9 +139,13 @@ module _ {B M : Type 0} {bg : Trays.Ghosts B M} {mg : Message.Ghosts M} {ig : Ti
             };
       }
 
+  -- one that gives nothing out
+  pub one_quiet : {X : Type 0} {z : ℕ} {u v w : Dispatcher B M bg mg ig} {made : List (Call M)} {c : Call M} {accepted : X → Event M} {r : Result X Refusal} → KeepsCycle c → ((x : X) → gives_out (accepted x) ≡ false) → CallsThrough z 0 u v made → Called z v w c accepted r → CallsThrough z 0 u w (made ++ c ∷ [])
+  one_quiet {c = c} {accepted = accepted} {r = r} keeps q t k = one_through keeps t k (sym (quiet 0 c accepted r q))
+
   -- after calls that gave nothing out
-  pub stays_on : (z n : ℕ) (v w : Dispatcher B M bg mg ig) (next : List (Call M)) (b : Terms M) (calls : List (Call M)) (h : History M) → Stays b (view v) calls h z 0 → CallsThrough z n v w next → Stays b (view w) (calls ++ next) h z n
-  stays_on z n v w next b calls h s k =
+  pub stays_on : {z n : ℕ} {v w : Dispatcher B M bg mg ig} {next : List (Call M)} {b : Terms M} {calls : List (Call M)} {h : History M} → Stays b (view v) calls h z 0 → CallsThrough z n v w next → Stays b (view w) (calls ++ next) h z n
+  stays_on {n = n} {w = w} {next = next} {b = b} {calls = calls} {h = h} s k =
       let x = k.in_cycle s.cycle b calls (h ++ s.on.more) s.on.led in
       let more = s.on.more ++ x.on.more in
       record {
@@ -158,12 +154,12 @@ module _ {B M : Type 0} {bg : Trays.Ghosts B M} {mg : Message.Ghosts M} {ig : Ti
         count = count_join s.on.more x.on.more n s.count x.count;
       }
 
-  pub join_through : (z n : ℕ) (u v w : Dispatcher B M bg mg ig) (made next : List (Call M)) → CallsThrough z 0 u v made → CallsThrough z n v w next → CallsThrough z n u w (made ++ next)
-  join_through z n u v w made next t k =
+  pub join_through : {z n : ℕ} {u v w : Dispatcher B M bg mg ig} {made next : List (Call M)} → CallsThrough z 0 u v made → CallsThrough z n v w next → CallsThrough z n u w (made ++ next)
+  join_through {z = z} {n = n} {w = w} {made = made} {next = next} t k =
       record {
         another_cycle = λ f.
             let o = t.another_cycle f in
             let x = k.another_cycle (λ e. f (same_cycle (sym o.0) ∙ e)) in (x.0 ∙ o.0, x.1);
         in_cycle = λ e b calls h l.
-            subst (λ cs. Stays b (view w) cs h z n) (append_assoc calls made next) (stays_on z n v w next b (calls ++ made) h (t.in_cycle e b calls h l) k);
+            subst (λ cs. Stays b (view w) cs h z n) (append_assoc calls made next) (stays_on (t.in_cycle e b calls h l) k);
       }

@@ -1,5 +1,5 @@
 -- What a call through a phase answers and leaves.
-use Rattle.std.specs.Prelude.{◌≡◌, ℕ, ◌+◌, min, Bool, cond, not, List, [], ◌∷◌, is_some, Some, None, Ok, Err, Option, Result, ◌==◌, ◌≢◌}
+use Rattle.std.specs.Prelude.{◌≡◌, ℕ, ◌+◌, min, Bool, cond, not, [], ◌∷◌, is_some, Some, None, Ok, Err, Option, Result, ◌==◌, ◌≢◌}
 use Rattle.messages.specs.declared.refusal.Refusal.{Refusal}
 use Rattle.messages.specs.declared.refusal.Refusal.TheVariants.{LateWaiting, OutOfPhase, Shut}
 use Rattle.banks.specs.declared.bank.Trays
