@@ -1,19 +1,18 @@
 -- Leaving the report phase.
-use Rattle.std.proofs.Common.{◌≡◌, ℕ, ◌<◌, ◌≤◌, Bool, true, false, not, eqb, ltb, List, [], ◌∷◌, length, Ok, Err, Result, sym, refl, ap, ◌∙◌, arith}
-use Rattle.std.proofs.lemmas.Bool.{cond-false, cond-true, eq-eqb, le-ltb, lt-ltb, ne_eqb}
-use Rattle.messages.specs.declared.refusal.Refusal.TheVariants.{LateWaiting, OutOfPhase, Shut}
+use Rattle.std.proofs.Common.{◌≡◌, ℕ, not, ltb, List, [], ◌∷◌, length, Result, refl, ap, arith}
+use Rattle.std.proofs.lemmas.Bool.{le-ltb, lt-ltb}
 use Rattle.banks.specs.declared.bank.Trays
 use Rattle.messages.specs.declared.message.Message
 use Rattle.messages.specs.declared.message.Timed
-use Rattle.banks.specs.declared.cell.Cell.{Cell}
 use Rattle.dispatcher.specs.declared.call.Call.TheVariants.{Ask}
 use Rattle.dispatcher.specs.declared.dispatcher.Dispatcher.{Dispatcher}
 use Rattle.dispatcher.specs.declared.entry.Figures.{Figures}
 use Rattle.dispatcher.specs.declared.event.Event.{Event}
 use Rattle.dispatcher.specs.declared.event.Event.TheVariants.{Asked}
-use Rattle.dispatcher.specs.Machine.{State, Terms, first_of, is_empty, step}
-use Rattle.dispatcher.specs.Steps.{Steps}
-use Rattle.phases.specs.Calls.{LeavesReport, left_report}
+use Rattle.dispatcher.specs.Machine.{State, Terms, is_empty, step}
+use Rattle.dispatcher.specs.Views.{view}
+use Rattle.dispatcher.specs.WholeRuns.{LawfulCall}
+use Rattle.phases.specs.Calls.{LeavesReport, left_report, why_not_left}
 use Rattle.phases.specs.declared.phase.Detect.{Detect}
 use Rattle.phases.specs.declared.phase.Report.{Report}
 use Rattle.phases.specs.declared.refused.Refused.{Refused}
@@ -29,39 +28,8 @@ waits (x ∷ xs) n e = lt-ltb 0 n (omega arith)
 pub asked_waiting : {M : Type 0} (b : Terms M) (m : State M) (f : Figures) → (step b m Ask).0 ≡ Asked f → length m.waiting ≡ f.waiting
 asked_waiting b m f e = same_waiting (step b m Ask).0 _ f refl e
 
-module _ {B M : Type 0} {bg : Trays.Ghosts B M} {mg : Message.Ghosts M} {ig : Timed.Ghosts M} (trays : B → List (List (Cell M))) (each all : B → ℕ) (interval : M → ℕ) (p : Report) (before after : Dispatcher B M bg mg ig) (f : Figures) (s : Steps trays each all interval before after Ask (Asked f)) (e : after ≡ before) where
-  leaves : (r : Result Detect (Refused Report)) → r ≡ left_report p (first_of ((not (eqb before.cycle p.cycle), OutOfPhase) ∷ (not before.«open», Shut) ∷ (ltb 0 f.waiting, LateWaiting) ∷ [])) → LeavesReport trays each all interval p before after r
-  leaves r a =
-      record { late_waits = ltb 0 f.waiting; is_so = λ b m h. waits m.waiting f.waiting (asked_waiting b m f (s b m h).0); answer = a; same = e }
-
-  other : after.cycle ≡ p.cycle → not (eqb before.cycle p.cycle) ≡ false
-  other h = ap not (eq-eqb before.cycle p.cycle (ap (λ (d : Dispatcher B M bg mg ig). d.cycle) (sym e) ∙ h))
-
-  shut : (o : Bool) → after.«open» ≡ o → not before.«open» ≡ not o
-  shut o h = ap not (ap (λ (d : Dispatcher B M bg mg ig). d.«open») (sym e) ∙ h)
-
-  pub out_of_phase : (after.cycle ≡ p.cycle → ⊥) → LeavesReport trays each all interval p before after (Err (record { phase = p; refusal = OutOfPhase }))
-  out_of_phase n =
-      leaves _
-      (sym
-      (ap (left_report p)
-      (cond-true _ _ _
-      (ap not (ne_eqb before.cycle p.cycle (λ h. n (ap (λ (d : Dispatcher B M bg mg ig). d.cycle) e ∙ h)))))))
-
-  pub refused_shut : after.cycle ≡ p.cycle → after.«open» ≡ false → LeavesReport trays each all interval p before after (Err (record { phase = p; refusal = Shut }))
-  refused_shut h o =
-      leaves _ (sym (ap (left_report p) (cond-false _ _ _ (other h) ∙ cond-true _ _ _ (shut false o))))
-
-  pub refused_late : after.cycle ≡ p.cycle → after.«open» ≡ true → 0 < f.waiting → LeavesReport trays each all interval p before after (Err (record { phase = p; refusal = LateWaiting }))
-  refused_late h o l =
-      leaves _
-      (sym
-      (ap (left_report p)
-      (cond-false _ _ _ (other h) ∙ cond-false _ _ _ (shut true o) ∙ cond-true _ _ _ (lt-ltb 0 f.waiting l))))
-
-  pub left : after.cycle ≡ p.cycle → after.«open» ≡ true → f.waiting ≤ 0 → LeavesReport trays each all interval p before after (Ok (record { cycle = p.cycle }))
-  left h o l =
-      leaves _
-      (sym
-      (ap (left_report p)
-      (cond-false _ _ _ (other h) ∙ cond-false _ _ _ (shut true o) ∙ cond-false _ _ _ (le-ltb 0 f.waiting l))))
+module _ {B M : Type 0} {bg : Trays.Ghosts B M} {mg : Message.Ghosts M} {ig : Timed.Ghosts M} where
+  -- leaving a report phase, from what asking told
+  pub leaves : {p : Report} {before after : Dispatcher B M bg mg ig} {f : Figures} {r : Result Detect (Refused Report)} → LawfulCall before after Ask (Asked f) → after ≡ before → r ≡ left_report p (why_not_left p (view before) (ltb 0 f.waiting)) → LeavesReport p before after r
+  leaves {f = f} l e a =
+      record { late_waits = ltb 0 f.waiting; is_so = λ b m h. waits m.waiting f.waiting (asked_waiting b m f (l.steps b m h).0); answer = a; same = e }

@@ -1,5 +1,5 @@
-mod Carrying
 mod Driving
 mod Leaving
 mod ManyRounds
+mod Results
 mod Through

@@ -7,7 +7,6 @@ use Rattle.messages.specs.declared.refusal.Refusal.TheVariants.{LateWaiting, Out
 use Rattle.banks.specs.declared.bank.Trays
 use Rattle.messages.specs.declared.message.Message
 use Rattle.messages.specs.declared.message.Timed
-use Rattle.banks.specs.declared.cell.Cell.{Cell}
 use Rattle.dispatcher.specs.declared.call.Call.{Call}
 use Rattle.dispatcher.specs.declared.call.Call.TheVariants.{Dispatch, Name, Post, Turn, Warn}
 use Rattle.dispatcher.specs.declared.dispatcher.Dispatcher.{Dispatcher}
@@ -49,49 +48,50 @@ pub record LedOn {M : Type 0} (b : Terms M) (w : View M) (calls : List (Call M))
 abbrev pub given_out : {M : Type 0} → History M → ℕ
 given_out h = min (count_by gives_out h) 4000000000
 
--- the calls led on to w, which is still in the cycle z, and gave n entries out
-pub record Stays {M : Type 0} (b : Terms M) (w : View M) (calls : List (Call M)) (h : History M) (z n : ℕ) : Type 0 where
-  pub on : LedOn b w calls h
-  pub cycle : w.cycle ≡ z
-  pub count : n ≡ given_out on.more
-
 -- why a report phase cannot be left in the state m, in the phase's own cycle
 abbrev pub keeps_in_report : {M : Type 0} → State M → Option Refusal
 keeps_in_report m = first_of ((not m.is_open, Shut) ∷ (not (is_empty m.waiting), LateWaiting) ∷ [])
 
--- all calls of a round led on to w, and it was turned: the next report phase q is that of the next cycle
-pub record TurnedOn {M : Type 0} (b : Terms M) (w : View M) (calls : List (Call M)) (h : History M) (p : Report) (round : Round M) (q : Report) : Type 0 where
-  pub on : LedOn b w (after_round b calls round) h
-  pub cycle : w.cycle ≡ p.cycle + 1
-  pub phase : q.cycle ≡ p.cycle + 1
+module _ {M : Type 0} (b : Terms M) (w : View M) (calls : List (Call M)) (h : History M) where
+  -- the calls led on to w, which is still in the cycle z, and gave n entries out
+  pub record Stays (z n : ℕ) : Type 0 where
+    pub on : LedOn b w calls h
+    pub cycle : w.cycle ≡ z
+    pub count : n ≡ given_out on.more
 
--- the namings of a round led on to w, and then the report phase p could not be left
-pub record KeptInReport {M : Type 0} (b : Terms M) (w : View M) (calls : List (Call M)) (h : History M) (p : Report) (x : Refused Report) : Type 0 where
-  pub on : LedOn b w (after_names b calls) h
-  pub cycle : w.cycle ≡ p.cycle
-  pub phase : x.phase ≡ p
-  pub why : keeps_in_report (run b (after_names b calls)).state ≡ Some x.refusal
+  -- all calls of a round led on to w, and it was turned: the next report phase q is that of the next cycle
+  pub record TurnedOn (p : Report) (round : Round M) (q : Report) : Type 0 where
+    pub on : LedOn b w (after_round b calls round) h
+    pub cycle : w.cycle ≡ p.cycle + 1
+    pub phase : q.cycle ≡ p.cycle + 1
 
--- all calls of a round led on to w, but its turn was refused: the output phase has the cycle and what was given out
-pub record KeptInOutput {M : Type 0} (b : Terms M) (w : View M) (calls : List (Call M)) (h : History M) (p : Report) (round : Round M) (x : Refused Output) : Type 0 where
-  pub on : LedOn b w (after_round b calls round) h
-  pub cycle : w.cycle ≡ p.cycle
-  pub phase : x.phase.cycle ≡ p.cycle
-  pub count : x.phase.dispatched ≡ given_out on.more
-  pub front : History M
-  pub why : on.more ≡ front ++ Refused-call (Turn round.cycle) x.refusal ∷ []
+  -- the namings of a round led on to w, and then the report phase p could not be left
+  pub record KeptInReport (p : Report) (x : Refused Report) : Type 0 where
+    pub on : LedOn b w (after_names b calls) h
+    pub cycle : w.cycle ≡ p.cycle
+    pub phase : x.phase ≡ p
+    pub why : keeps_in_report (run b (after_names b calls)).state ≡ Some x.refusal
 
--- a round that was driven from the report phase p
-abbrev pub DrivenRound : {M : Type 0} → Terms M → View M → List (Call M) → History M → Report → Round M → Result Report Held → Type 0
-DrivenRound b w calls h p round (Ok q) = TurnedOn b w calls h p round q
-DrivenRound b w calls h p round (Err (InReport x)) = KeptInReport b w calls h p x
-DrivenRound b w calls h p round (Err (InOutput x)) = KeptInOutput b w calls h p round x
+  -- all calls of a round led on to w, but its turn was refused: the output phase has the cycle and what was given out
+  pub record KeptInOutput (p : Report) (round : Round M) (x : Refused Output) : Type 0 where
+    pub on : LedOn b w (after_round b calls round) h
+    pub cycle : w.cycle ≡ p.cycle
+    pub phase : x.phase.cycle ≡ p.cycle
+    pub count : x.phase.dispatched ≡ given_out on.more
+    pub front : History M
+    pub why : on.more ≡ front ++ Refused-call (Turn round.cycle) x.refusal ∷ []
 
--- all rounds were made, and q is the report phase after them
-pub record MadeAll {M : Type 0} (b : Terms M) (w : View M) (calls : List (Call M)) (h : History M) (p : Report) (rounds : List (Round M)) (q : Report) : Type 0 where
-  pub on : LedOn b w (after_rounds b calls rounds) h
-  pub cycle : w.cycle ≡ p.cycle + length rounds
-  pub phase : q.cycle ≡ p.cycle + length rounds
+  -- a round that was driven from the report phase p
+  abbrev pub DrivenRound : Report → Round M → Result Report Held → Type 0
+  DrivenRound p round (Ok q) = TurnedOn p round q
+  DrivenRound p round (Err (InReport x)) = KeptInReport p x
+  DrivenRound p round (Err (InOutput x)) = KeptInOutput p round x
+
+  -- all rounds were made, and q is the report phase after them
+  pub record MadeAll (p : Report) (rounds : List (Round M)) (q : Report) : Type 0 where
+    pub on : LedOn b w (after_rounds b calls rounds) h
+    pub cycle : w.cycle ≡ p.cycle + length rounds
+    pub phase : q.cycle ≡ p.cycle + length rounds
 
 -- the rounds before one were made, as `earlier` tells, and that one stopped
 pub record Stopped {M : Type 0} (b : Terms M) (w : View M) (calls : List (Call M)) (h : History M) (p : Report) (rounds : List (Round M)) (s : Stop) : Type 0 where
@@ -114,19 +114,19 @@ abbrev pub not_driven : {M : Type 0} → Report → List (Round M) → Result Re
 not_driven p [] = Ok p
 not_driven p (r ∷ rs) = Err (record { round = 0; held = out_of_phase p })
 
-module _ {B M : Type 0} {bg : Trays.Ghosts B M} {mg : Message.Ghosts M} {ig : Timed.Ghosts M} (trays : B → List (List (Cell M))) (each all : B → ℕ) (interval : M → ℕ) where
+module _ {B M : Type 0} {bg : Trays.Ghosts B M} {mg : Message.Ghosts M} {ig : Timed.Ghosts M} where
   -- these calls, one after another through phases of the cycle z, of which n gave an entry out
   pub record CallsThrough (z n : ℕ) (before after : Dispatcher B M bg mg ig) (made : List (Call M)) : Type 0 where
-    pub another_cycle : (before.cycle ≢ z) → (after ≡ before) × (n ≡ 0)
-    pub in_cycle : before.cycle ≡ z → (b : Terms M) (calls : List (Call M)) (h : History M) → Led b (view trays each all interval before) calls h → Stays b (view trays each all interval after) (calls ++ made) h z n
+    pub another_cycle : ((view before).cycle ≢ z) → (after ≡ before) × (n ≡ 0)
+    pub in_cycle : (view before).cycle ≡ z → (b : Terms M) (calls : List (Call M)) (h : History M) → Led b (view before) calls h → Stays b (view after) (calls ++ made) h z n
 
   -- one round from the report phase p: nothing with a dispatcher in another cycle, and else, whatever calls led here, the
   -- calls of the round lead on
   pub record DrivesRound (p : Report) (before after : Dispatcher B M bg mg ig) (round : Round M) (r : Result Report Held) : Type 0 where
-    pub another_cycle : (before.cycle ≢ p.cycle) → (after ≡ before) × (r ≡ Err (out_of_phase p))
-    pub in_cycle : before.cycle ≡ p.cycle → (b : Terms M) (calls : List (Call M)) (h : History M) → Led b (view trays each all interval before) calls h → DrivenRound b (view trays each all interval after) calls h p round r
+    pub another_cycle : ((view before).cycle ≢ p.cycle) → (after ≡ before) × (r ≡ Err (out_of_phase p))
+    pub in_cycle : (view before).cycle ≡ p.cycle → (b : Terms M) (calls : List (Call M)) (h : History M) → Led b (view before) calls h → DrivenRound b (view after) calls h p round r
 
   -- the same of rounds one after another
   pub record Drives (p : Report) (before after : Dispatcher B M bg mg ig) (rounds : List (Round M)) (r : Result Report Stop) : Type 0 where
-    pub another_cycle : (before.cycle ≢ p.cycle) → (after ≡ before) × (r ≡ not_driven p rounds)
-    pub in_cycle : before.cycle ≡ p.cycle → (b : Terms M) (calls : List (Call M)) (h : History M) → Led b (view trays each all interval before) calls h → DrivenRounds b (view trays each all interval after) calls h p rounds r
+    pub another_cycle : ((view before).cycle ≢ p.cycle) → (after ≡ before) × (r ≡ not_driven p rounds)
+    pub in_cycle : (view before).cycle ≡ p.cycle → (b : Terms M) (calls : List (Call M)) (h : History M) → Led b (view before) calls h → DrivenRounds b (view after) calls h p rounds r

@@ -14,7 +14,7 @@ use messages::message::Timed;
 fn name_times<B: Bank>(report: &Report, dispatcher: &mut Dispatcher<B>, times: usize)
 where
     B::Item: Timed,
-    ensures { CallsThrough B.Trays.trays B.Trays.tray_limit B.Trays.total_limit B.Item.Timed.interval report.now.cycle 0 dispatcher.old dispatcher.new (replicate times Name) }
+    ensures { CallsThrough report.now.cycle 0 dispatcher.old dispatcher.new (replicate times Name) }
 {
     for _ in 0..times {
         let _ = report.name(dispatcher);
@@ -24,7 +24,7 @@ where
 fn post_all<B: Bank>(detect: &Detect, dispatcher: &mut Dispatcher<B>, messages: &[B::Item])
 where
     B::Item: Timed,
-    ensures { CallsThrough B.Trays.trays B.Trays.tray_limit B.Trays.total_limit B.Item.Timed.interval detect.now.cycle 0 dispatcher.old dispatcher.new (map Post messages.now) }
+    ensures { CallsThrough detect.now.cycle 0 dispatcher.old dispatcher.new (map Post messages.now) }
 {
     for message in messages {
         let _ = detect.post(dispatcher, *message);
@@ -39,7 +39,7 @@ fn react_to<B: Bank>(
 ) -> Output
 where
     B::Item: Timed,
-    ensures calls { CallsThrough B.Trays.trays B.Trays.tray_limit B.Trays.total_limit B.Item.Timed.interval detect.cycle result.dispatched dispatcher.old dispatcher.new (Warn round.entry.services ∷ replicate round.entry.dispatches Dispatch) }
+    ensures calls { CallsThrough detect.cycle result.dispatched dispatcher.old dispatcher.new (Warn round.entry.services ∷ replicate round.entry.dispatches Dispatch) }
     ensures phase { result.cycle ≡ detect.cycle }
 {
     let mut react = detect.react();
@@ -59,42 +59,29 @@ pub fn drive_round<B: Bank>(
 ) -> Result<Report, Held>
 where
     B::Item: Timed,
-    ensures { DrivesRound B.Trays.trays B.Trays.tray_limit B.Trays.total_limit B.Item.Timed.interval report dispatcher.old dispatcher.new round.entry result }
+    ensures { DrivesRound report dispatcher.old dispatcher.new round.entry result }
 {
     let waiting = dispatcher.ask().waiting;
     name_times(&report, dispatcher, waiting);
-    match report.detect(dispatcher) {
-        Ok(detect) => {
-            post_all(&detect, dispatcher, round.messages);
-            let output = react_to(detect, dispatcher, round);
-            match output.turn(dispatcher, round.cycle) {
-                Ok(next) => {
-                    let NextCycle { late: _, report } = next;
-                    Ok(report)
-                }
-                Err(refused) => Err(Held::InOutput(refused)),
-            }
-        }
-        Err(refused) => Err(Held::InReport(refused)),
-    }
+    let detect = report.detect(dispatcher)?;
+    post_all(&detect, dispatcher, round.messages);
+    let output = react_to(detect, dispatcher, round);
+    let NextCycle { late: _, report } = output.turn(dispatcher, round.cycle)?;
+    Ok(report)
 }
 
 // Drives a cycle for each round, until one stops.
 pub fn drive<B: Bank>(
-    report: Report,
+    mut report: Report,
     dispatcher: &mut Dispatcher<B>,
     rounds: &[Round<B::Item>],
 ) -> Result<Report, Stop>
 where
     B::Item: Timed,
-    ensures { Drives B.Trays.trays B.Trays.tray_limit B.Trays.total_limit B.Item.Timed.interval report dispatcher.old dispatcher.new rounds.now result }
+    ensures { Drives report dispatcher.old dispatcher.new rounds.now result }
 {
-    let mut report = report;
     for (round, inputs) in rounds.iter().enumerate() {
-        match drive_round(report, dispatcher, *inputs) {
-            Ok(next) => report = next,
-            Err(held) => return Err(Stop { round, held }),
-        }
+        report = drive_round(report, dispatcher, *inputs).map_err(|held| Stop { round, held })?;
     }
     Ok(report)
 }

@@ -2,7 +2,7 @@
 
 // The messages to post, in this order; the services that a warning is asked for; how often to dispatch; and the cycle
 // that the timer begins then.
-#[derive(Clone, Copy)]
+#[derive(Clone, Copy, Debug, PartialEq, Eq)]
 pub struct Round<'a, M> {
     pub messages: &'a [M],
     pub services: u32,

@@ -1,9 +1,9 @@
 // Whole cycles of a hub, call by call.
 use crate::steps::{
-    BLANK, begin, count, detect, dispatch, entry, keep_output, keep_reporting, name, note, post,
-    turn,
+    begin, count, detect, dispatch, entry, keep_output, keep_reporting, name, note, post, turn,
 };
 use banks::bank::Bank;
+use banks::cell::Cell;
 use chains::chain_bank::ChainBank;
 use dispatcher::dispatcher::Dispatcher;
 use dispatcher::entry::Slip;
@@ -59,10 +59,10 @@ fn late_note<B: Bank<Item = Note> + Drop>(rt: &impl Abort, bank: B) -> Result<()
 
 #[test]
 fn a_late_note_over_a_row_bank(rt: HostRuntime) -> Result<(), Fail> {
-    late_note(&rt, RowBank::new(&mut [BLANK; 8], 4))
+    late_note(&rt, RowBank::new(&mut [Cell::default(); 8], 4))
 }
 
 #[test]
 fn a_late_note_over_a_chain_bank(rt: HostRuntime) -> Result<(), Fail> {
-    late_note(&rt, ChainBank::new(&mut [BLANK; 8], 4))
+    late_note(&rt, ChainBank::new(&mut [Cell::default(); 8], 4))
 }

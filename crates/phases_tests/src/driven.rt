@@ -1,6 +1,7 @@
 // Rounds driven one after another.
-use crate::steps::{BLANK, begin, note};
+use crate::steps::{begin, note};
 use banks::bank::Bank;
+use banks::cell::Cell;
 use chains::chain_bank::ChainBank;
 use dispatcher::dispatcher::Dispatcher;
 use dispatcher::entry::Figures;
@@ -15,23 +16,27 @@ use rows::row_bank::RowBank;
 use std::process::Abort;
 use std::test::Fail;
 
-// Where driving ended: the round in which it stopped, the refusal's number, and the cycle of the phase.
-type End = (Option<usize>, u8, u32);
+// Where driving ended: the round in which it stopped and why, if it did, and the cycle of the phase.
+#[derive(Debug, PartialEq, Drop)]
+struct End {
+    stopped: Option<(usize, Refusal)>,
+    cycle: u32,
+}
 
 fn end_of(driven: Result<Report, Stop>) -> End {
     match driven {
-        Ok(report) => (None, 0, report.finish()),
-        Err(stop) => {
-            let Stop { round, held } = stop;
-            match held {
-                Held::InReport(refused) => {
-                    let Refused { phase, refusal } = refused;
-                    (Some(round), refusal.number(), phase.finish())
-                }
-                Held::InOutput(refused) => {
-                    let Refused { phase, refusal } = refused;
-                    (Some(round), refusal.number(), phase.finish())
-                }
+        Ok(report) => End {
+            stopped: None,
+            cycle: report.finish(),
+        },
+        Err(Stop { round, held }) => {
+            let (refusal, cycle) = match held {
+                Held::InReport(Refused { phase, refusal }) => (refusal, phase.finish()),
+                Held::InOutput(Refused { phase, refusal }) => (refusal, phase.finish()),
+            };
+            End {
+                stopped: Some((round, refusal)),
+                cycle,
             }
         }
     }
@@ -56,8 +61,14 @@ fn driven<B: Bank<Item = Note> + Drop>(
 fn three_rounds_over_a_row_bank(rt: HostRuntime) -> Result<(), Fail> {
     let notes = [note(1), note(1), note(2)];
     let rounds = [round(&notes, 1, 1), round(&[], 1, 2), round(&[], 1, 3)];
-    let (end, figures) = driven(&rt, RowBank::new(&mut [BLANK; 16], 4), &rounds)?;
-    assert_eq!(rt; end, (None, 0, 3));
+    let (end, figures) = driven(&rt, RowBank::new(&mut [Cell::default(); 16], 4), &rounds)?;
+    assert_eq!(rt;
+        end,
+        End {
+            stopped: None,
+            cycle: 3
+        }
+    );
     assert_eq!(rt; figures.accepted, 3);
     assert_eq!(rt; figures.dispatched, 2);
     assert_eq!(rt; figures.late, 1);
@@ -74,8 +85,9 @@ fn a_wrong_cycle_stops_the_drive(rt: HostRuntime) -> Result<(), Fail> {
         round(&notes, 2, 7),
         round(&notes, 0, 2),
     ];
-    let (end, figures) = driven(&rt, ChainBank::new(&mut [BLANK; 16], 4), &rounds)?;
-    assert_eq!(rt; end, (Some(1), Refusal::NotNextCycle.number(), 1));
+    let (end, figures) = driven(&rt, ChainBank::new(&mut [Cell::default(); 16], 4), &rounds)?;
+    assert_eq!(rt; end.stopped, Some((1, Refusal::NotNextCycle)));
+    assert_eq!(rt; end.cycle, 1);
     assert_eq!(rt; figures.accepted, 2);
     assert_eq!(rt; figures.dispatched, 2);
     Ok(())

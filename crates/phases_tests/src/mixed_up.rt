@@ -1,8 +1,9 @@
 // Phases with a dispatcher that they are not of.
 use crate::steps::{
-    BLANK, begin, check_eq, count, detect, dispatch, keep_output, keep_reporting, name, note, post,
+    begin, count, detect, dispatch, keep, keep_output, keep_reporting, name, note, post,
 };
 use banks::bank::Bank;
+use banks::cell::Cell;
 use dispatcher::dispatcher::Dispatcher;
 use messages::note::Note;
 use messages::refusal::Refusal;
@@ -11,28 +12,23 @@ use rows::row_bank::RowBank;
 use std::process::Abort;
 use std::test::Fail;
 
-// The number of a refused beginning, or 0.
-fn beginning<B: Bank<Item = Note>>(dispatcher: &mut Dispatcher<B>) -> u8 {
-    match Report::begin(dispatcher) {
-        Ok(report) => {
-            let _ = report.finish();
-            0
-        }
-        Err(refusal) => refusal.number(),
-    }
+// Begins, and ends again at once.
+fn beginning<B: Bank<Item = Note>>(dispatcher: &mut Dispatcher<B>) -> Result<(), Refusal> {
+    let _ = Report::begin(dispatcher)?.finish();
+    Ok(())
 }
 
 fn begun_once<B: Bank<Item = Note> + Drop>(rt: &impl Abort, bank: B) {
     let mut dispatcher = Dispatcher::new(bank);
-    assert_eq!(rt; beginning(&mut dispatcher), 1);
+    assert_eq!(rt; beginning(&mut dispatcher), Err(Refusal::Shut));
     assert_eq!(rt; dispatcher.open(7, 0), Ok(()));
-    assert_eq!(rt; beginning(&mut dispatcher), 0);
-    assert_eq!(rt; beginning(&mut dispatcher), 11);
+    assert_eq!(rt; beginning(&mut dispatcher), Ok(()));
+    assert_eq!(rt; beginning(&mut dispatcher), Err(Refusal::OutOfPhase));
 }
 
 #[test]
 fn a_dispatcher_is_begun_once(rt: HostRuntime) {
-    begun_once(&rt, RowBank::new(&mut [BLANK; 8], 4));
+    begun_once(&rt, RowBank::new(&mut [Cell::default(); 8], 4));
 }
 
 // A dispatcher that is turned behind the back of its phase of cycle 0: every call through a phase of that cycle is
@@ -42,13 +38,7 @@ fn turned_behind<B: Bank<Item = Note> + Drop>(rt: &impl Abort, bank: B) -> Resul
     assert_eq!(rt; dispatcher.open(0, 0), Ok(()));
     assert!(rt; dispatcher.post(note(2)).is_ok());
     let report = begin(&mut dispatcher)?;
-    match check_eq(dispatcher.turn(1), Ok(0)) {
-        Ok(()) => (),
-        Err(fail) => {
-            let _ = report.finish();
-            return Err(fail);
-        }
-    }
+    let report = keep(report, dispatcher.turn(1), Ok(0))?;
     let report = name(report, &mut dispatcher, Err(Refusal::OutOfPhase))?;
     let report = keep_reporting(report, &mut dispatcher, Refusal::OutOfPhase)?;
     assert_eq!(rt; report.finish(), 0);
@@ -60,7 +50,7 @@ fn turned_behind<B: Bank<Item = Note> + Drop>(rt: &impl Abort, bank: B) -> Resul
 
 #[test]
 fn a_phase_of_cycle_0_is_of_no_use_in_cycle_1(rt: HostRuntime) -> Result<(), Fail> {
-    turned_behind(&rt, RowBank::new(&mut [BLANK; 8], 4))
+    turned_behind(&rt, RowBank::new(&mut [Cell::default(); 8], 4))
 }
 
 // Two dispatchers in different cycles, and the phase of the first with the second.
@@ -89,8 +79,8 @@ fn two_dispatchers<A: Bank<Item = Note> + Drop, B: Bank<Item = Note> + Drop>(
 fn a_phase_refuses_a_dispatcher_in_another_cycle(rt: HostRuntime) -> Result<(), Fail> {
     two_dispatchers(
         &rt,
-        RowBank::new(&mut [BLANK; 8], 4),
-        RowBank::new(&mut [BLANK; 8], 4),
+        RowBank::new(&mut [Cell::default(); 8], 4),
+        RowBank::new(&mut [Cell::default(); 8], 4),
     )
 }
 
@@ -114,7 +104,7 @@ fn shut_dispatcher<A: Bank<Item = Note> + Drop, B: Bank<Item = Note> + Drop>(
 fn a_phase_refuses_a_shut_dispatcher(rt: HostRuntime) -> Result<(), Fail> {
     shut_dispatcher(
         &rt,
-        RowBank::new(&mut [BLANK; 8], 4),
-        RowBank::new(&mut [BLANK; 8], 4),
+        RowBank::new(&mut [Cell::default(); 8], 4),
+        RowBank::new(&mut [Cell::default(); 8], 4),
     )
 }

@@ -1,7 +1,5 @@
-// One call through a phase each, with what it has to answer. A phase cannot be let go, so where a check fails it is
-// finished first.
+// One call through a phase each, with what it has to answer.
 use banks::bank::Bank;
-use banks::cell::Cell;
 use dispatcher::dispatcher::Dispatcher;
 use dispatcher::entry::{Entry, Slip};
 use messages::note::{Note, NoteKind};
@@ -11,11 +9,41 @@ use phases::refused::Refused;
 use std::fmt::Debug;
 use std::test::Fail;
 
-// What the tests' tables hold before the first put.
-pub const BLANK: Cell<Note> = Cell {
-    receipt: 0,
-    message: Note::BLANK,
-};
+// A phase cannot be let go, so where a check fails the driving is ended first.
+trait End {
+    fn end(self);
+}
+
+impl End for Report {
+    fn end(self) {
+        let _ = self.finish();
+    }
+}
+
+impl End for Detect {
+    fn end(self) {
+        self.react().end();
+    }
+}
+
+impl End for React {
+    fn end(self) {
+        self.output().end();
+    }
+}
+
+impl End for Output {
+    fn end(self) {
+        let _ = self.finish();
+    }
+}
+
+impl End for NextCycle {
+    fn end(self) {
+        let NextCycle { late: _, report } = self;
+        report.end();
+    }
+}
 
 // A tilt note of pad 7.
 pub fn note(interval: u8) -> Note {
@@ -36,20 +64,37 @@ pub fn entry(receipt: u32, interval: u8, deadline: u32) -> Entry<Note> {
     }
 }
 
-// That a value is the one that is wanted, as a result: a phase at hand can be finished before the test ends.
-pub fn check_eq<T: PartialEq + Debug + Drop>(found: T, wanted: T) -> Result<(), Fail> {
+// The phase, if a value is the one that is wanted.
+pub fn keep<P: End, T: PartialEq + Debug + Drop>(phase: P, found: T, wanted: T) -> Result<P, Fail> {
     if found == wanted {
-        Ok(())
+        Ok(phase)
     } else {
+        phase.end();
         Err(Fail::new(format_args!("{found:?} in place of {wanted:?}")))
     }
 }
 
-pub fn begin<B: Bank<Item = Note>>(dispatcher: &mut Dispatcher<B>) -> Result<Report, Fail> {
-    match Report::begin(dispatcher) {
-        Ok(report) => Ok(report),
-        Err(_) => Err(Fail::new("the beginning is refused")),
+// The phase that comes next.
+fn leave<P: End, Q>(step: Result<Q, Refused<P>>) -> Result<Q, Fail> {
+    step.map_err(|Refused { phase, refusal }| {
+        phase.end();
+        Fail::new(format_args!("the phase is not left: {refusal:?}"))
+    })
+}
+
+// The phase that could not be left.
+fn stay<P: End, Q: End>(step: Result<Q, Refused<P>>, why: Refusal) -> Result<P, Fail> {
+    match step {
+        Ok(next) => {
+            next.end();
+            Err(Fail::new("the phase is left"))
+        }
+        Err(Refused { phase, refusal }) => keep(phase, refusal, why),
     }
+}
+
+pub fn begin<B: Bank<Item = Note>>(dispatcher: &mut Dispatcher<B>) -> Result<Report, Fail> {
+    Report::begin(dispatcher).map_err(|_| Fail::new("the beginning is refused"))
 }
 
 pub fn name<B: Bank<Item = Note>>(
@@ -57,27 +102,15 @@ pub fn name<B: Bank<Item = Note>>(
     dispatcher: &mut Dispatcher<B>,
     answer: Result<Option<Entry<Note>>, Refusal>,
 ) -> Result<Report, Fail> {
-    match check_eq(report.name(dispatcher), answer) {
-        Ok(()) => Ok(report),
-        Err(fail) => {
-            let _ = report.finish();
-            Err(fail)
-        }
-    }
+    let named = report.name(dispatcher);
+    keep(report, named, answer)
 }
 
 pub fn detect<B: Bank<Item = Note>>(
     report: Report,
     dispatcher: &mut Dispatcher<B>,
 ) -> Result<Detect, Fail> {
-    match report.detect(dispatcher) {
-        Ok(detect) => Ok(detect),
-        Err(refused) => {
-            let Refused { phase, refusal: _ } = refused;
-            let _ = phase.finish();
-            Err(Fail::new("the report phase is not left"))
-        }
-    }
+    leave(report.detect(dispatcher))
 }
 
 // The report phase cannot be left.
@@ -86,22 +119,7 @@ pub fn keep_reporting<B: Bank<Item = Note>>(
     dispatcher: &mut Dispatcher<B>,
     why: Refusal,
 ) -> Result<Report, Fail> {
-    match report.detect(dispatcher) {
-        Ok(detect) => {
-            let _ = detect.react().output().finish();
-            Err(Fail::new("the report phase is left"))
-        }
-        Err(refused) => {
-            let Refused { phase, refusal } = refused;
-            match check_eq(refusal, why) {
-                Ok(()) => Ok(phase),
-                Err(fail) => {
-                    let _ = phase.finish();
-                    Err(fail)
-                }
-            }
-        }
-    }
+    stay(report.detect(dispatcher), why)
 }
 
 pub fn post<B: Bank<Item = Note>>(
@@ -110,13 +128,8 @@ pub fn post<B: Bank<Item = Note>>(
     message: Note,
     answer: Result<Slip, Refusal>,
 ) -> Result<Detect, Fail> {
-    match check_eq(detect.post(dispatcher, message), answer) {
-        Ok(()) => Ok(detect),
-        Err(fail) => {
-            let _ = detect.react().output().finish();
-            Err(fail)
-        }
-    }
+    let posted = detect.post(dispatcher, message);
+    keep(detect, posted, answer)
 }
 
 pub fn dispatch<B: Bank<Item = Note>>(
@@ -124,24 +137,14 @@ pub fn dispatch<B: Bank<Item = Note>>(
     dispatcher: &mut Dispatcher<B>,
     answer: Result<Option<Entry<Note>>, Refusal>,
 ) -> Result<React, Fail> {
-    match check_eq(react.dispatch(dispatcher), answer) {
-        Ok(()) => Ok(react),
-        Err(fail) => {
-            let _ = react.output().finish();
-            Err(fail)
-        }
-    }
+    let dispatched = react.dispatch(dispatcher);
+    keep(react, dispatched, answer)
 }
 
 // What the output phase counted.
 pub fn count(output: Output, dispatched: u32) -> Result<Output, Fail> {
-    match check_eq(output.dispatched(), dispatched) {
-        Ok(()) => Ok(output),
-        Err(fail) => {
-            let _ = output.finish();
-            Err(fail)
-        }
-    }
+    let counted = output.dispatched();
+    keep(output, counted, dispatched)
 }
 
 pub fn turn<B: Bank<Item = Note>>(
@@ -150,23 +153,8 @@ pub fn turn<B: Bank<Item = Note>>(
     cycle: u32,
     made_late: usize,
 ) -> Result<Report, Fail> {
-    match output.turn(dispatcher, cycle) {
-        Ok(next) => {
-            let NextCycle { late, report } = next;
-            match check_eq(late, made_late) {
-                Ok(()) => Ok(report),
-                Err(fail) => {
-                    let _ = report.finish();
-                    Err(fail)
-                }
-            }
-        }
-        Err(refused) => {
-            let Refused { phase, refusal: _ } = refused;
-            let _ = phase.finish();
-            Err(Fail::new("the turn is refused"))
-        }
-    }
+    let NextCycle { late, report } = leave(output.turn(dispatcher, cycle))?;
+    keep(report, late, made_late)
 }
 
 // The output phase cannot be left.
@@ -176,21 +164,5 @@ pub fn keep_output<B: Bank<Item = Note>>(
     cycle: u32,
     why: Refusal,
 ) -> Result<Output, Fail> {
-    match output.turn(dispatcher, cycle) {
-        Ok(next) => {
-            let NextCycle { late: _, report } = next;
-            let _ = report.finish();
-            Err(Fail::new("the turn is accepted"))
-        }
-        Err(refused) => {
-            let Refused { phase, refusal } = refused;
-            match check_eq(refusal, why) {
-                Ok(()) => Ok(phase),
-                Err(fail) => {
-                    let _ = phase.finish();
-                    Err(fail)
-                }
-            }
-        }
-    }
+    stay(output.turn(dispatcher, cycle), why)
 }

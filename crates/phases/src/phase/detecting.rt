@@ -2,11 +2,12 @@
 ghost use Rattle.std.specs.Prelude.{◌≡◌};
 ghost use Rattle.dispatcher.specs.Answers.{entered};
 ghost use Rattle.dispatcher.specs.Steps.{TakesWhenEmpty};
+ghost use Rattle.dispatcher.specs.Views.{view};
 ghost use Rattle.dispatcher.specs.declared.call.Call.TheVariants.{Post};
 ghost use Rattle.dispatcher.specs.declared.event.Event.TheVariants.{Posted};
 ghost use Rattle.phases.specs.Calls.{Called};
 
-use crate::phase::{Detect, React};
+use crate::phase::{Detect, React, in_cycle};
 use banks::bank::Bank;
 use dispatcher::dispatcher::Dispatcher;
 use dispatcher::entry::Slip;
@@ -22,12 +23,10 @@ impl Detect {
     ) -> Result<Slip, Refusal>
     where
         B::Item: Timed,
-        ensures call { Called B.Trays.trays B.Trays.tray_limit B.Trays.total_limit B.Item.Timed.interval self.now.cycle dispatcher.old dispatcher.new (Post message) (λ p. Posted (entered p message)) result }
-        ensures room { dispatcher.old.cycle ≡ self.now.cycle → TakesWhenEmpty B.Trays.trays B.Trays.tray_limit B.Trays.total_limit B.Item.Timed.interval dispatcher.old message result }
+        ensures call { Called self.now.cycle dispatcher.old dispatcher.new (Post message) (λ p. Posted (entered p message)) result }
+        ensures room { (view dispatcher.old).cycle ≡ self.now.cycle → TakesWhenEmpty dispatcher.old message result }
     {
-        if dispatcher.cycle() != self.cycle {
-            return Err(Refusal::OutOfPhase);
-        }
+        in_cycle(dispatcher, self.cycle)?;
         dispatcher.post(message)
     }
 

@@ -1,8 +1,10 @@
 // The output phase: it tells what the react phase dispatched, and turns the dispatcher to the next cycle.
 ghost use Rattle.std.specs.Prelude.{◌≡◌, ◌≤◌};
-ghost use Rattle.phases.specs.Calls.{Turns};
+ghost use Rattle.dispatcher.specs.declared.call.Call.TheVariants.{Turn};
+ghost use Rattle.dispatcher.specs.declared.event.Event.TheVariants.{Turned};
+ghost use Rattle.phases.specs.Calls.{Called, Turns};
 
-use crate::phase::{NextCycle, Output, Report};
+use crate::phase::{NextCycle, Output, Report, in_cycle};
 use crate::refused::Refused;
 use banks::bank::Bank;
 use dispatcher::dispatcher::Dispatcher;
@@ -25,15 +27,10 @@ impl Output {
     ) -> Result<NextCycle, Refused<Output>>
     where
         B::Item: Timed,
-        ensures { Turns B.Trays.trays B.Trays.tray_limit B.Trays.total_limit B.Item.Timed.interval self dispatcher.old dispatcher.new cycle result }
+        ensures { Turns self dispatcher.old dispatcher.new cycle result }
     {
-        if dispatcher.cycle() != self.cycle {
-            return Err(Refused {
-                phase: self,
-                refusal: Refusal::OutOfPhase,
-            });
-        }
-        match dispatcher.turn(cycle) {
+        // A phase may not be let go, so no `?` passes a refusal on while `self` is held.
+        match self.turn_on(dispatcher, cycle) {
             Ok(late) => {
                 let _ = self.finish();
                 Ok(NextCycle {
@@ -48,7 +45,18 @@ impl Output {
         }
     }
 
-    // Ends the driving, as where there is no next cycle to turn to, and answers its last cycle.
+    // Turns the dispatcher, and answers how many entries became late.
+    fn turn_on<B: Bank>(&self, dispatcher: &mut Dispatcher<B>, cycle: u32) -> Result<usize, Refusal>
+    where
+        B::Item: Timed,
+        ensures { Called self.now.cycle dispatcher.old dispatcher.new (Turn cycle) (Turned cycle) result }
+    {
+        in_cycle(dispatcher, self.cycle)?;
+        dispatcher.turn(cycle)
+    }
+
+    // Ends the driving, as where there is no next cycle to turn to, and answers its last cycle. A trait for this and for
+    // the `finish` of a report phase would be no plainer.
     pub fn finish(self) -> u32
         ensures { result ≡ self.cycle }
     {

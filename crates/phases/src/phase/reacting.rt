@@ -1,10 +1,10 @@
 // The react phase: used to dispatch entries and to ask for warnings, and left for the output phase.
-ghost use Rattle.std.specs.Prelude.{◌≡◌, if◌then◌else◌};
+ghost use Rattle.std.specs.Prelude.{◌≡◌};
 ghost use Rattle.dispatcher.specs.declared.call.Call.TheVariants.{Dispatch, Warn};
 ghost use Rattle.dispatcher.specs.declared.event.Event.TheVariants.{Dispatched, Warned};
-ghost use Rattle.phases.specs.Calls.{Called, counted, one_more};
+ghost use Rattle.phases.specs.Calls.{Called, counted};
 
-use crate::phase::{Output, React};
+use crate::phase::{Output, React, in_cycle};
 use banks::bank::Bank;
 use dispatcher::dispatcher::Dispatcher;
 use dispatcher::entry::{Entry, Warning};
@@ -22,30 +22,16 @@ impl React {
     ) -> Result<Option<Entry<B::Item>>, Refusal>
     where
         B::Item: Timed,
-        ensures call { Called B.Trays.trays B.Trays.tray_limit B.Trays.total_limit B.Item.Timed.interval self.old.cycle dispatcher.old dispatcher.new Dispatch Dispatched result }
+        ensures call { Called self.old.cycle dispatcher.old dispatcher.new Dispatch Dispatched result }
         ensures cycle { self.new.cycle ≡ self.old.cycle }
         ensures count { self.new.dispatched ≡ counted self.old.dispatched result }
     {
-        if dispatcher.cycle() != self.cycle {
-            return Err(Refusal::OutOfPhase);
+        in_cycle(dispatcher, self.cycle)?;
+        let given = dispatcher.dispatch()?;
+        if given.is_some() {
+            self.dispatched = (self.dispatched + 1).min(MOST);
         }
-        match dispatcher.dispatch() {
-            Ok(given) => {
-                self.count(given.is_some());
-                Ok(given)
-            }
-            Err(refusal) => Err(refusal),
-        }
-    }
-
-    // Counts a dispatch, if it gave an entry.
-    fn count(&mut self, given: bool)
-        ensures cycle { self.new.cycle ≡ self.old.cycle }
-        ensures count { self.new.dispatched ≡ (if given then one_more self.old.dispatched else self.old.dispatched) }
-    {
-        if given && self.dispatched < MOST {
-            self.dispatched += 1;
-        }
+        Ok(given)
     }
 
     // Whether so many services in this cycle and in each later one are too few for what is pending.
@@ -56,12 +42,10 @@ impl React {
     ) -> Result<Option<Warning>, Refusal>
     where
         B::Item: Timed,
-        ensures call { Called B.Trays.trays B.Trays.tray_limit B.Trays.total_limit B.Item.Timed.interval self.now.cycle dispatcher.old dispatcher.new (Warn services) (Warned services) result }
+        ensures call { Called self.now.cycle dispatcher.old dispatcher.new (Warn services) (Warned services) result }
         ensures same { dispatcher.new ≡ dispatcher.old }
     {
-        if dispatcher.cycle() != self.cycle {
-            return Err(Refusal::OutOfPhase);
-        }
+        in_cycle(dispatcher, self.cycle)?;
         dispatcher.warn(services)
     }
 

@@ -5,9 +5,10 @@ ghost use Rattle.dispatcher.specs.WholeRuns.{LawfulCall};
 ghost use Rattle.dispatcher.specs.Answers.{answered};
 ghost use Rattle.dispatcher.specs.declared.call.Call.TheVariants.{Begin, Name};
 ghost use Rattle.dispatcher.specs.declared.event.Event.TheVariants.{Begun, Named};
-ghost use Rattle.phases.specs.Calls.{Called, LeavesReport};
+ghost use Rattle.dispatcher.specs.Views.{view};
+ghost use Rattle.phases.specs.Calls.{Called, LeavesReport, leaving};
 
-use crate::phase::{Detect, Report};
+use crate::phase::{Detect, Report, in_cycle};
 use crate::refused::Refused;
 use banks::bank::Bank;
 use dispatcher::dispatcher::Dispatcher;
@@ -20,16 +21,14 @@ impl Report {
     pub fn begin<B: Bank>(dispatcher: &mut Dispatcher<B>) -> Result<Report, Refusal>
     where
         B::Item: Timed,
-        ensures lawful { LawfulCall B.Trays.trays B.Trays.tray_limit B.Trays.total_limit B.Item.Timed.interval dispatcher.old dispatcher.new Begin (answered Begin (λ _. Begun) result) }
+        ensures lawful { LawfulCall dispatcher.old dispatcher.new Begin (answered Begin (λ _. Begun) result) }
         ensures same { Fails result → dispatcher.new ≡ dispatcher.old }
-        ensures phase { IfOk result (λ p. p.cycle ≡ dispatcher.new.cycle) }
+        ensures phase { IfOk result (λ p. p.cycle ≡ (view dispatcher.new).cycle) }
     {
-        match dispatcher.begin() {
-            Ok(()) => Ok(Report {
-                cycle: dispatcher.cycle(),
-            }),
-            Err(refusal) => Err(refusal),
-        }
+        dispatcher.begin()?;
+        Ok(Report {
+            cycle: dispatcher.cycle(),
+        })
     }
 
     // Names the first of the late entries that wait.
@@ -39,11 +38,9 @@ impl Report {
     ) -> Result<Option<Entry<B::Item>>, Refusal>
     where
         B::Item: Timed,
-        ensures { Called B.Trays.trays B.Trays.tray_limit B.Trays.total_limit B.Item.Timed.interval self.now.cycle dispatcher.old dispatcher.new Name Named result }
+        ensures { Called self.now.cycle dispatcher.old dispatcher.new Name Named result }
     {
-        if dispatcher.cycle() != self.cycle {
-            return Err(Refusal::OutOfPhase);
-        }
+        in_cycle(dispatcher, self.cycle)?;
         dispatcher.name()
     }
 
@@ -51,29 +48,19 @@ impl Report {
     pub fn detect<B: Bank>(self, dispatcher: &mut Dispatcher<B>) -> Result<Detect, Refused<Report>>
     where
         B::Item: Timed,
-        ensures { LeavesReport B.Trays.trays B.Trays.tray_limit B.Trays.total_limit B.Item.Timed.interval self dispatcher.old dispatcher.new result }
+        ensures { LeavesReport self dispatcher.old dispatcher.new result }
     {
-        let waiting = dispatcher.ask().waiting;
-        if dispatcher.cycle() != self.cycle {
-            return Err(Refused {
+        // A phase may not be let go, so no `?` passes a refusal on while `self` is held.
+        match may_be_left(dispatcher, self.cycle) {
+            Ok(()) => {
+                let Report { cycle } = self;
+                Ok(Detect { cycle })
+            }
+            Err(refusal) => Err(Refused {
                 phase: self,
-                refusal: Refusal::OutOfPhase,
-            });
+                refusal,
+            }),
         }
-        if !dispatcher.is_open() {
-            return Err(Refused {
-                phase: self,
-                refusal: Refusal::Shut,
-            });
-        }
-        if waiting > 0 {
-            return Err(Refused {
-                phase: self,
-                refusal: Refusal::LateWaiting,
-            });
-        }
-        let Report { cycle } = self;
-        Ok(Detect { cycle })
     }
 
     // Ends the driving, and answers its last cycle. The dispatcher keeps that it has begun, so it gives no other phase.
@@ -83,4 +70,22 @@ impl Report {
         let Report { cycle: last } = self;
         last
     }
+}
+
+// Refuses to leave the report phase of a cycle while a late entry waits, before that with a shut dispatcher, and before
+// all else with a dispatcher in another cycle.
+fn may_be_left<B: Bank>(dispatcher: &mut Dispatcher<B>, cycle: u32) -> Result<(), Refusal>
+where
+    B::Item: Timed,
+    ensures { LeavesReport (record { cycle = cycle }) dispatcher.old dispatcher.new (leaving (record { cycle = cycle }) result) }
+{
+    let waiting = dispatcher.ask().waiting;
+    in_cycle(dispatcher, cycle)?;
+    if !dispatcher.is_open() {
+        return Err(Refusal::Shut);
+    }
+    if waiting > 0 {
+        return Err(Refusal::LateWaiting);
+    }
+    Ok(())
 }

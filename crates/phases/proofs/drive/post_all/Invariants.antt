@@ -5,4 +5,4 @@ use Rattle.phases.proofs.drive.post_all.Given as goal
 
 abbrev pub invariant-loop-message : goal.invariant-loop-message
 invariant-loop-message g l =
-    CallsThrough g.B.Trays.trays g.B.Trays.tray_limit g.B.Trays.total_limit g.B.Item.Timed.interval l.detect.cycle 0 l.initial.dispatcher l.dispatcher (map Post (take l.message-index l.messages))
+    CallsThrough l.detect.cycle 0 l.initial.dispatcher l.dispatcher (map Post (take l.message-index l.messages))

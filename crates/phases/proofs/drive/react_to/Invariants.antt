@@ -6,4 +6,4 @@ use Rattle.phases.proofs.drive.react_to.Given as goal
 abbrev pub invariant-loop : goal.invariant-loop
 invariant-loop g l =
     (l.react.cycle ≡ l.initial.react.cycle)
-    × CallsThrough g.B.Trays.trays g.B.Trays.tray_limit g.B.Trays.total_limit g.B.Item.Timed.interval l.initial.react.cycle l.react.dispatched l.initial.dispatcher l.dispatcher (replicate l.counter Dispatch)
+    × CallsThrough l.initial.react.cycle l.react.dispatched l.initial.dispatcher l.dispatcher (replicate l.counter Dispatch)
