@@ -30,7 +30,7 @@ brief_width n h = length-decimal-le 4 n (omega arith) h (omega arith)
 byte_width : (n : ℕ) → n < 256 → length (decimal n) ≤ 3
 byte_width n h = length-decimal-le 3 n (omega arith) (omega arith) (omega arith)
 
-pub small_refusal : (k : Refusal) → refusal_number k < 17
+small_refusal : (k : Refusal) → refusal_number k < 17
 small_refusal Shut = omega arith
 small_refusal AlreadyOpen = omega arith
 small_refusal StartTooHigh = omega arith
@@ -50,11 +50,6 @@ small_refusal OutputTooShort = omega arith
 
 refusal_width : (k : Refusal) → length (decimal (refusal_number k)) ≤ 2
 refusal_width k = let s = small_refusal k in length-decimal-le 2 (refusal_number k) (omega arith) (omega arith) (omega arith)
-
-pub refused_room : (letter : ℕ) (k : Refusal) → length (line (letter ∷ []) (refusal_number k ∷ [])) ≤ 20
-unfolding total
-refused_room letter k =
-    let e = line_length letter (refusal_number k ∷ []) in let a = refusal_width k in omega arith
 
 pub two_room : (letter a b : ℕ) → Brief a → Brief b → length (line (letter ∷ []) (a ∷ b ∷ [])) ≤ 20
 unfolding total
@@ -88,7 +83,7 @@ fault_room letter k offset h =
     let b = length-decimal-le 5 offset (omega arith) h (omega arith) in omega arith
 
 -- no call's line has less room than this
-pub least_room : {M : Type 0} (c : Call M) → 20 ≤ room c
+least_room : {M : Type 0} (c : Call M) → 20 ≤ room c
 least_room (Open z r) = omega arith
 least_room (Post m) = omega arith
 least_room Dispatch = omega arith
@@ -98,16 +93,9 @@ least_room (Warn c) = omega arith
 least_room Begin = omega arith
 least_room Ask = omega arith
 
--- the same, as the room that the output has
-pub two_fit : (letter a b at len : ℕ) → Brief a → Brief b → at + 20 ≤ len → at + length (line (letter ∷ []) (a ∷ b ∷ [])) ≤ len
-two_fit letter a b at len h i l = let r = two_room letter a b h i in omega arith
-
-pub entry_fits : (letter a b c d at len : ℕ) → Brief a → Brief b → c < 256 → d < 256 → at + 20 ≤ len → at + length (line (letter ∷ []) (a ∷ b ∷ c ∷ d ∷ [])) ≤ len
-entry_fits letter a b c d at len h i j k l = let r = entry_room letter a b c d h i j k in omega arith
-
-pub fault_fits : (letter a b at len : ℕ) → a < 100 → b < 100000 → at + 11 ≤ len → at + length (line (letter ∷ []) (a ∷ b ∷ [])) ≤ len
+pub refused_room : {M : Type 0} (letter : ℕ) (k : Refusal) (c : Call M) → length (line (letter ∷ []) (refusal_number k ∷ [])) ≤ room c
 unfolding total
-fault_fits letter a b at len h i l =
-    let e = line_length letter (a ∷ b ∷ []) in
-    let p = length-decimal-le 2 a (omega arith) h (omega arith) in
-    let q = length-decimal-le 5 b (omega arith) i (omega arith) in omega arith
+refused_room letter k c =
+    let e = line_length letter (refusal_number k ∷ []) in
+    let a = refusal_width k in
+    let b = least_room c in omega arith

@@ -23,19 +23,17 @@ pub(crate) fn read_calls<M: Posted>(
     calls.push(Call::Open(0, 0))?;
     loop {
         match records.next() {
-            Ok(next) => {
-                let Some(record) = next else {
-                    calls.push(Call::Ask)?;
-                    return Ok((calls, None));
-                };
-                calls.push(call_of(record.step))?;
+            Ok(Some(record)) => calls.push(call_of(record.step))?,
+            Ok(None) => {
+                calls.push(Call::Ask)?;
+                return Ok((calls, None));
             }
             Err(fault) => return Ok((calls, Some(fault))),
         }
     }
 }
 
-// The call that a step stands for.
+// The call that a step stands for. Both types are of other crates, so it cannot be a `From`.
 fn call_of<M: Copy>(step: Step<M>) -> Call<M>
     ensures { result ≡ call_for step }
 {
