@@ -39,15 +39,14 @@ fn write_event<M: Message>(text: &mut String, event: Event<M>) -> Result<(), All
     ensures short { length (line_of M.Message.pad M.Message.kind event) ≤ room (call_of event) }
 {
     match event {
+        Event::Opened(_, _) | Event::Begun => Ok(()),
         Event::Refused(_, refusal) => writeln!(text, "R {}", refusal.number()),
-        Event::Opened(_, _) => Ok(()),
         Event::Posted(entry) => writeln!(text, "P {} {}", entry.receipt, entry.deadline),
         Event::Dispatched(entry) => write_entry(text, 'D', entry),
         Event::Turned(cycle, late) => writeln!(text, "T {cycle} {late}"),
         Event::Named(entry) => write_entry(text, 'L', entry),
         Event::Warned(_, Some(warning)) => writeln!(text, "W {} {}", warning.ahead, warning.load),
         Event::Warned(_, None) => writeln!(text, "W -"),
-        Event::Begun => Ok(()),
         Event::Asked(end) => writeln!(
             text,
             "E {} {} {} {} {}",
