@@ -15,15 +15,9 @@ use Rattle.steps.specs.declared.step.Step.TheVariants.{Post, Dispatch, Turn, Nam
 use Rattle.steps.proofs.Lengths.{file_length}
 use Rattle.runner.specs.Calls.{call_for, calls_for, last_calls}
 use Rattle.runner.specs.Files.{CallsOf, Tells}
-use Rattle.runner.specs.Lines.{fault_line}
 use Rattle.runner.specs.Room.{BriefEvent, BriefFault, FewCalls, FromZero, room, room_for}
 use Rattle.runner.proofs.Bounds.{run_brief}
 use Rattle.runner.proofs.Rooms.{room_append}
-use Rattle.runner.proofs.Widths.{fault_room}
-
-pub fault_short : (fault : Option Fault) → BriefFault fault → length (fault_line fault) ≤ 11
-fault_short None h = omega arith
-fault_short (Some fault) h = fault_room 70 fault.refusal fault.offset h
 
 module _ (M : Type 0) where
   last_room : (fault : Option Fault) → room_for {M = M} (last_calls fault) ≤ 27

@@ -1,14 +1,15 @@
 -- How long lines with brief numbers are.
-use Rattle.std.proofs.Common.{◌≡◌, ℕ, ◌+◌, ◌<◌, ◌≤◌, List, [], ◌∷◌, length, decimal, refl, arith, length-append}
+use Rattle.std.proofs.Common.{◌≡◌, ℕ, ◌+◌, ◌<◌, ◌≤◌, List, [], ◌∷◌, length, Some, None, Option, decimal, refl, arith, length-append}
 use Rattle.std.specs.List.{flat_map}
 use Rattle.std.proofs.lemmas.Fmt.{length-decimal-le}
 use Rattle.messages.specs.declared.refusal.Refusal.{Refusal}
 use Rattle.messages.specs.declared.refusal.Refusal.TheVariants.{Shut, AlreadyOpen, StartTooHigh, UnfitBank, IntervalOutOfRange, Full, ReceiptsUsedUp, NotNextCycle, LateWaiting, CyclesUsedUp, OutOfPhase, TooManyServices, BadHeader, BadRecord, NoSuchTray, OutputTooShort}
 use Rattle.messages.specs.Refusals.{refusal_number}
-use Rattle.runner.specs.Lines.{line, part}
+use Rattle.steps.specs.declared.fault.Fault.{Fault}
+use Rattle.runner.specs.Lines.{fault_line, line, part}
 use Rattle.dispatcher.specs.declared.call.Call.{Call}
 use Rattle.dispatcher.specs.declared.call.Call.TheVariants.{Ask, Begin, Dispatch, Name, Open, Post, Turn, Warn}
-use Rattle.runner.specs.Room.{Brief, room}
+use Rattle.runner.specs.Room.{Brief, BriefFault, room}
 
 total : List ℕ → ℕ
 total [] = 0
@@ -75,12 +76,13 @@ five_room letter a b c d e h i j k l =
     let s = brief_width d k in
     let t = brief_width e l in omega arith
 
-pub fault_room : (letter : ℕ) (k : Refusal) (offset : ℕ) → offset < 100000 → length (line (letter ∷ []) (refusal_number k ∷ offset ∷ [])) ≤ 11
+pub fault_short : (fault : Option Fault) → BriefFault fault → length (fault_line fault) ≤ 11
 unfolding total
-fault_room letter k offset h =
-    let e = line_length letter (refusal_number k ∷ offset ∷ []) in
-    let a = refusal_width k in
-    let b = length-decimal-le 5 offset (omega arith) h (omega arith) in omega arith
+fault_short None h = omega arith
+fault_short (Some fault) h =
+    let e = line_length 70 (refusal_number fault.refusal ∷ fault.offset ∷ []) in
+    let a = refusal_width fault.refusal in
+    let b = length-decimal-le 5 fault.offset (omega arith) h (omega arith) in omega arith
 
 -- no call's line has less room than this
 least_room : {M : Type 0} (c : Call M) → 20 ≤ room c

@@ -3,7 +3,7 @@ ghost use Rattle.std.specs.Prelude.{◌≡◌, ◌<◌, ◌≤◌, [], ◌∷◌
 ghost use Rattle.dispatcher.specs.Machine.{call_of};
 ghost use Rattle.runner.specs.Lines as lines;
 ghost use Rattle.runner.specs.Lines.{entry_line, line_of};
-ghost use Rattle.runner.specs.Room.{BriefEntry, BriefEvent, room, room_for};
+ghost use Rattle.runner.specs.Room.{BriefEntry, BriefEvent, BriefFault, room, room_for};
 ghost use Rattle.std.specs.List.{flat_map, AllByRecursion};
 
 use arrayvec::ArrayString;
@@ -80,8 +80,11 @@ fn write_entry<M: Message>(
 }
 
 // Writes where the file stops being lawful, if it does.
+#[tactic(auto, using(crate::proofs::Widths::fault_short))]
 pub(crate) fn write_fault(text: &mut String, fault: Option<Fault>) -> Result<(), AllocError>
-    ensures { OnOk result (string_bytes text.new ≡ string_bytes text.old ++ lines.fault_line fault) }
+    requires { BriefFault fault }
+    ensures wrote { OnOk result (string_bytes text.new ≡ string_bytes text.old ++ lines.fault_line fault) }
+    ensures short { length (lines.fault_line fault) ≤ 11 }
 {
     match fault {
         Some(fault) => text.push_str(fault_line(fault).as_str()),
