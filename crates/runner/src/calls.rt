@@ -21,6 +21,7 @@ pub(crate) fn read_calls<M: Posted>(
 {
     let mut calls = Vec::new(heap);
     calls.push(Call::Open(0, 0))?;
+    // The reader is no iterator, since it gives a fault again and again; so the loop is written out.
     loop {
         match records.next() {
             Ok(Some(record)) => calls.push(call_of(record.step))?,
