@@ -21,21 +21,20 @@ pub(crate) fn read_calls<M: Posted>(
 {
     let mut calls = Vec::new(heap);
     calls.push(Call::Open(0, 0))?;
+    // The reader is no iterator, since it gives a fault again and again; so the loop is written out.
     loop {
         match records.next() {
-            Ok(next) => {
-                let Some(record) = next else {
-                    calls.push(Call::Ask)?;
-                    return Ok((calls, None));
-                };
-                calls.push(call_of(record.step))?;
+            Ok(Some(record)) => calls.push(call_of(record.step))?,
+            Ok(None) => {
+                calls.push(Call::Ask)?;
+                return Ok((calls, None));
             }
             Err(fault) => return Ok((calls, Some(fault))),
         }
     }
 }
 
-// The call that a step stands for.
+// The call that a step stands for. Both types are of other crates, so it cannot be a `From`.
 fn call_of<M: Copy>(step: Step<M>) -> Call<M>
     ensures { result ≡ call_for step }
 {

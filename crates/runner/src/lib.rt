@@ -5,4 +5,3 @@ mod calls;
 pub mod laws;
 mod lines;
 pub mod listing;
-mod text;

@@ -10,15 +10,13 @@ ghost use Rattle.steps.specs.Progress.{HasRead};
 
 use super::Unlisted;
 use crate::calls::read_calls;
-use crate::lines::{write_events, write_fault};
+use crate::lines::{fault_line, write_events, write_fault};
 use banks::bank::Bank;
 use banks::cell::Cell;
 use chains::chain_bank::ChainBank;
 use dispatcher::call::Call;
 use dispatcher::dispatcher::running::run;
 use messages::message::{Message, Timed};
-use messages::note::Note;
-use messages::pen::PenMessage;
 use messages::refusal::Refusal;
 use rows::row_bank::RowBank;
 use std::alloc::{AllocError, Global};
@@ -34,17 +32,6 @@ pub const OUTPUT: usize = 65_536;
 // How many cells the lesson's bank has.
 const CELLS: usize = 256;
 
-// What they hold before the first put.
-const BLANK_PEN: Cell<PenMessage> = Cell {
-    receipt: 0,
-    message: PenMessage::BLANK,
-};
-
-const BLANK_NOTE: Cell<Note> = Cell {
-    receipt: 0,
-    message: Note::BLANK,
-};
-
 // Runs the steps of a file and writes what happened to the start of the output; answers how many bytes that took.
 pub fn list(heap: Global, file: &[u8], out: &mut [u8]) -> Result<usize, Unlisted>
     ensures { Lists file.now out.old out.new result }
@@ -52,10 +39,7 @@ pub fn list(heap: Global, file: &[u8], out: &mut [u8]) -> Result<usize, Unlisted
     if out.len() < OUTPUT {
         return Err(Unlisted::Refused(Refusal::OutputTooShort));
     }
-    match list_file(heap, file, out) {
-        Ok(length) => Ok(length),
-        Err(error) => Err(Unlisted::NoMemory(error)),
-    }
+    Ok(list_file(heap, file, out)?)
 }
 
 // The same, into an output that is long enough.
@@ -64,11 +48,9 @@ fn list_file(heap: Global, file: &[u8], out: &mut [u8]) -> Result<usize, AllocEr
     ensures { MatchResult result (λ n. (text : List ℕ) × IsListing file.now text × Holds text out.old out.new n) (λ _. HasHeader file.now × (out.new ≡ out.old)) }
 {
     match StepsFile::open(file) {
-        Ok(opened) => match opened {
-            StepsFile::Pen(records) => play(heap, records, &mut [BLANK_PEN; CELLS], out),
-            StepsFile::Note(records) => play(heap, records, &mut [BLANK_NOTE; CELLS], out),
-        },
-        Err(fault) => Ok(write_fault(out, 0, Some(fault))),
+        Ok(StepsFile::Pen(records)) => play(heap, records, &mut [Cell::default(); CELLS], out),
+        Ok(StepsFile::Note(records)) => play(heap, records, &mut [Cell::default(); CELLS], out),
+        Err(fault) => Ok(fill(out, fault_line(fault).as_str())),
     }
 }
 
@@ -105,7 +87,7 @@ fn play<M: Posted>(
     }
 }
 
-// Makes the calls, and then writes the line of each event and that of the fault.
+// Makes the calls, and lists their events and the fault. The output is written only once the whole text is there.
 fn list_run<B: Bank + Drop>(
     heap: Global,
     bank: B,
@@ -121,6 +103,17 @@ where
     ensures { MatchResult result (Holds (listing_over B.Item.Message.pad B.Item.Message.kind (terms B.Trays.trays B.Trays.tray_limit B.Trays.total_limit B.Item.Timed.interval bank) calls.now fault) out.old out.new) (λ _. out.new ≡ out.old) }
 {
     let (_dispatcher, events) = run(heap, bank, calls)?;
-    let end = write_events(out, events.as_slice());
-    Ok(write_fault(out, end, fault))
+    let mut text = String::new(heap);
+    write_events(&mut text, events.as_slice())?;
+    write_fault(&mut text, fault)?;
+    Ok(fill(out, text.as_str()))
+}
+
+// Writes a text to the start of the output, and answers its length.
+fn fill(out: &mut [u8], text: &str) -> usize
+    requires { length text.now ≤ length out.old }
+    ensures { Holds text.now out.old out.new result }
+{
+    out[..text.len()].copy_from_slice(text.as_bytes());
+    text.len()
 }
