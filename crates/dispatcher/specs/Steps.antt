@@ -19,15 +19,15 @@ Fails (Err k) = Unit {0}
 abbrev pub Simulates : {M : Type 0} → View M → View M → Call M → Event M → Type 0
 Simulates {M} v w c a = (b : Terms M) (m : State M) → Shows b v m → ((step b m c).0 ≡ a) × Shows b w (step b m c).1
 
-module _ {B M : Type 0} (t : Trays.Ghosts B M) (i : Timed.Ghosts M) where
+module _ {B M : Type 0} (t : Trays.Ghosts B M) (interval : M → ℕ) where
   -- what a dispatcher over the bank is made with
   abbrev pub terms : B → Terms M
-  terms b = record { interval = i.interval; span = length (t.trays b) - 1; tray_limit = t.tray_limit b; total_limit = t.total_limit b; holds = nat_lt 0 (held_in (t.trays b)) }
+  terms b = record { interval = interval; span = length (t.trays b) - 1; tray_limit = t.tray_limit b; total_limit = t.total_limit b; holds = nat_lt 0 (held_in (t.trays b)) }
 
 module _ {B M : Type 0} {t : Trays.Ghosts B M} {m : Message.Ghosts M} {i : Timed.Ghosts M} where
   -- a new dispatcher shows the start of the machine
   abbrev pub Starts : B → Dispatcher B M t m i → Type 0
-  Starts b d = Shows (terms t i b) (view d) start
+  Starts b d = Shows (terms t i.interval b) (view d) start
 
   -- the first of the cycles ahead of an open dispatcher that has more entries due by it than c in each cycle can serve
   abbrev pub Foresees : Dispatcher B M t m i → ℕ → Option Warning → Type 0

@@ -106,6 +106,6 @@ module _ {B M : Type 0} (t : Trays.Ghosts B M) (m : Message.Ghosts M) (i : Timed
 -- these calls, made on a new dispatcher over the bank, led to the dispatcher d: of each call the answer that the machine
 -- gives, and all of it accounted for at the start, after each call, and at the end
 pub record AccountedRun {B M : Type 0} {t : Trays.Ghosts B M} {m : Message.Ghosts M} {i : Timed.Ghosts M} (bank : B) (d : Dispatcher B M t m i) (calls : List (Call M)) (h : History M) : Type 0 where
-  pub led : Led (terms t i bank) (view d) calls h
-  pub after_each : (k : ℕ) → k ≤ length calls → Accounted t m i (terms t i bank) calls h k
+  pub led : Led (terms t i.interval bank) (view d) calls h
+  pub after_each : (k : ℕ) → k ≤ length calls → Accounted t m i (terms t i.interval bank) calls h k
   pub accounts : Accounts h (view d)

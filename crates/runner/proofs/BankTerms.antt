@@ -6,7 +6,6 @@ use Rattle.banks.specs.Trays.{held_in}
 use Rattle.chains.specs.Chains.{chain_number, chain_size}
 use Rattle.rows.specs.Rings.{row_limit, row_number}
 use Rattle.dispatcher.specs.Machine.{Terms}
-use Rattle.dispatcher.specs.Steps.{terms}
 use Rattle.banks.specs.declared.cell.Cell.{Cell}
 use Rattle.steps.specs.Layout.{EnoughTrays}
 use Rattle.steps.specs.declared.header.BankKind.TheVariants.{Row, Chain}
@@ -17,8 +16,13 @@ none_held : (C : Type 0) (n : ℕ) → held_in {C = C} (replicate n []) ≡ 0
 none_held C zero = refl
 none_held C (suc n) = let ih = none_held C n in omega arith
 
+-- what a dispatcher over a bank is made with, by what the bank's trays hold and by its limits
+abbrev pub made_with : {M B : Type 0} → (B → List (List (Cell M))) → (B → ℕ) → (B → ℕ) → (M → ℕ) → B → Terms M
+made_with trays each all interval bank =
+    record { interval = interval; span = length (trays bank) - 1; tray_limit = each bank; total_limit = all bank; holds = ltb 0 (held_in (trays bank)) }
+
 -- a bank with n empty trays and these limits
-pub empty_terms : {M B : Type 0} (trays : B → List (List (Cell M))) (each all : B → ℕ) (interval : M → ℕ) (bank : B) (n e a : ℕ) → trays bank ≡ replicate n [] → each bank ≡ e → all bank ≡ a → terms trays each all interval bank ≡ record { interval = interval; span = n - 1; tray_limit = e; total_limit = a; holds = false }
+pub empty_terms : {M B : Type 0} (trays : B → List (List (Cell M))) (each all : B → ℕ) (interval : M → ℕ) (bank : B) (n e a : ℕ) → trays bank ≡ replicate n [] → each bank ≡ e → all bank ≡ a → made_with trays each all interval bank ≡ record { interval = interval; span = n - 1; tray_limit = e; total_limit = a; holds = false }
 empty_terms {M} trays each all interval bank n e a t p q =
     let span : length (trays bank) - 1 ≡ n - 1 = ap (λ x. length x - 1) t ∙ ap (λ x. x - 1) (length-replicate n []) in
     let held : ltb 0 (held_in (trays bank)) ≡ false = ap (λ x. ltb 0 (held_in x)) t ∙ ap (λ x. ltb 0 x) (none_held (Cell M) n) in
@@ -46,7 +50,7 @@ module _ (t : ℕ) (some : 2 ≤ t) (few : t ≤ 128) where
 
 -- a new bank of 256 cells, row or chain, with the trays that the header asks for
 module _ {M B : Type 0} (trays : B → List (List (Cell M))) (each all : B → ℕ) (interval : M → ℕ) (bank : B) (h : Header) (len t : ℕ) (size : len ≡ 256) (number : t ≡ h.trays) (enough : EnoughTrays h) where
-  pub row_terms : h.bank ≡ Row → trays bank ≡ replicate (row_number len t) [] → each bank ≡ row_limit len t → all bank ≡ row_number len t * row_limit len t → terms trays each all interval bank ≡ bank_terms interval h
+  pub row_terms : h.bank ≡ Row → trays bank ≡ replicate (row_number len t) [] → each bank ≡ row_limit len t → all bank ≡ row_number len t * row_limit len t → made_with trays each all interval bank ≡ bank_terms interval h
   row_terms kind empty limit total =
       let k = h.trays in
       let n : row_number len t ≡ k =
@@ -58,7 +62,7 @@ module _ {M B : Type 0} (trays : B → List (List (Cell M))) (each all : B → �
       (limit ∙ l ∙ ap (λ b. cells_of_each b k) (sym kind))
       (total ∙ ap (λ x. x * row_limit len t) n ∙ ap (λ x. k * x) l ∙ ap (λ b. cells_of_all b k) (sym kind))
 
-  pub chain_terms : h.bank ≡ Chain → trays bank ≡ replicate (chain_number len t) [] → each bank ≡ chain_size len t → all bank ≡ chain_size len t → terms trays each all interval bank ≡ bank_terms interval h
+  pub chain_terms : h.bank ≡ Chain → trays bank ≡ replicate (chain_number len t) [] → each bank ≡ chain_size len t → all bank ≡ chain_size len t → made_with trays each all interval bank ≡ bank_terms interval h
   chain_terms kind empty limit total =
       let k = h.trays in
       let n : chain_number len t ≡ k =

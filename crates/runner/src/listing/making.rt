@@ -100,7 +100,7 @@ where
     requires few { FewCalls calls.now }
     requires brief { BriefFault fault }
     requires room { output_size ≤ length out.old }
-    ensures { MatchResult result (Holds (listing_over B.Item.Message.pad B.Item.Message.kind (terms B.Trays.trays B.Trays.tray_limit B.Trays.total_limit B.Item.Timed.interval bank) calls.now fault) out.old out.new) (λ _. out.new ≡ out.old) }
+    ensures { MatchResult result (Holds (listing_over B.Item.Message.pad B.Item.Message.kind (terms B.Trays B.Item.Timed.interval bank) calls.now fault) out.old out.new) (λ _. out.new ≡ out.old) }
 {
     let (_dispatcher, events) = run(heap, bank, calls)?;
     let mut text = String::new(heap);

@@ -33,7 +33,7 @@ pub returns : goal.returns
 returns g c =
     let l = c.loop-call in
     let calls = c.args.calls.now in
-    let b = terms g.B.Trays g.B.Item.Timed c.args.bank in
+    let b = terms g.B.Trays g.B.Item.Timed.interval c.args.bank in
     let v : View g.row.B-Item.Denot = view l.dispatcher in
     let ran = Ran b l.dispatcher in
     let r = subst (λ cs. ran cs (vec_items l.events)) (take_all l.call-index calls c.loop-call-test.false) (l.invariant b c.new-dispatcher.ensures) in

@@ -10,7 +10,7 @@ use Rattle.runner.proofs.listing.making.list_run.Goals as goal
 
 pub write_events-requires : goal.write_events-requires
 write_events-requires g c =
-    let b = terms g.B.Trays.trays g.B.Trays.tray_limit g.B.Trays.total_limit g.B.Item.Timed.interval c.args.bank in
+    let b = terms g.B.Trays g.B.Item.Timed.interval c.args.bank in
     let h = vec_items c.in_ok-_dispatcher.events in
     let trays = g.B.Trays.few_trays c.args.bank in
     let narrow : length (g.B.Trays.trays c.args.bank) - 1 ≤ 127 = omega arith in
@@ -28,7 +28,7 @@ written_length new lines fault some all text a b c d =
 
 pub fill-requires : goal.fill-requires
 fill-requires g c =
-    let b = terms g.B.Trays.trays g.B.Trays.tray_limit g.B.Trays.total_limit g.B.Item.Timed.interval c.args.bank in
+    let b = terms g.B.Trays g.B.Item.Timed.interval c.args.bank in
     let trays = g.B.Trays.few_trays c.args.bank in
     let narrow : length (g.B.Trays.trays c.args.bank) - 1 ≤ 127 = omega arith in
     let r = history_room b narrow c.args.calls.now c.requires.few c.as_slice.result.now
