@@ -1,15 +1,16 @@
 // A load on a dispatcher over any bank of notes.
 ghost use Rattle.std.specs.Prelude.{◌≡◌};
-ghost use Rattle.bench_driver.specs.Loads.{AnswersByte, checksum, note_at, note_interval};
+ghost use Rattle.bench_driver.specs.Loads.{AnswersByte, checksum, note_at, note_timed};
+ghost use Rattle.bench_driver.specs.Numbers.{number_told};
 ghost use Rattle.dispatcher.specs.Steps.{terms};
 ghost use Rattle.dispatcher.specs.Views.{view};
 
-use crate::numbers::{
-    after_ask, after_dispatch, after_name, after_open, after_post, after_turn, mix,
-};
+use crate::numbers::{NONE_DISPATCHED, NONE_NAMED, OPENED, entry_number, halves, mix, told};
 use banks::bank::Bank;
 use dispatcher::dispatcher::Dispatcher;
+use dispatcher::entry::Entry;
 use messages::note::{Note, NoteKind};
+use messages::refusal::Refusal;
 
 fn note(cycle: u32, interval: u8) -> Note
     ensures { result ≡ note_at cycle interval }
@@ -22,36 +23,43 @@ fn note(cycle: u32, interval: u8) -> Note
     }
 }
 
-// Makes the call that the byte stands for, and tells what it answered.
-fn answer<B: Bank<Item = Note>>(dispatcher: &mut Dispatcher<B>, byte: u8) -> u64
-    ensures { AnswersByte (view B.Trays.trays B.Trays.tray_limit B.Trays.total_limit note_interval dispatcher.old) (view B.Trays.trays B.Trays.tray_limit B.Trays.total_limit note_interval dispatcher.new) byte result }
+// Makes the call that the byte stands for, and tells what it answered as a number.
+fn answer<B: Bank<Item = Note>>(dispatcher: &mut Dispatcher<B>, byte: u8) -> Result<u64, Refusal>
+    ensures { AnswersByte (view dispatcher.old) (view dispatcher.new) byte (number_told result) }
 {
-    if byte == 0 {
-        return after_dispatch(dispatcher.dispatch());
+    match byte {
+        0 => Ok(dispatcher.dispatch()?.map_or(NONE_DISPATCHED, entry_number)),
+        interval if interval < 128 => {
+            let message = note(dispatcher.cycle(), interval);
+            let slip = dispatcher.post(message)?;
+            Ok(entry_number(Entry {
+                receipt: slip.receipt,
+                message,
+                deadline: slip.deadline,
+            }))
+        }
+        128 => {
+            let next = dispatcher.cycle() + 1;
+            let late = dispatcher.turn(next)?;
+            Ok(halves(next, late as u64))
+        }
+        129 => Ok(dispatcher.name()?.map_or(NONE_NAMED, entry_number)),
+        _ => {
+            let figures = dispatcher.ask();
+            Ok(mix(figures.pending as u64, figures.waiting as u64))
+        }
     }
-    if byte < 128 {
-        let message = note(dispatcher.cycle(), byte);
-        return after_post(message, dispatcher.post(message));
-    }
-    if byte == 128 {
-        let next = dispatcher.cycle() + 1;
-        return after_turn(next, dispatcher.turn(next));
-    }
-    if byte == 129 {
-        return after_name(dispatcher.name());
-    }
-    after_ask(dispatcher.ask())
 }
 
 // Makes the calls of a load on a new dispatcher over the bank, one after another.
+#[tactic(auto, using(crate::proofs::Loading::summed_next))]
 pub(crate) fn drive<B: Bank<Item = Note> + Drop>(bank: B, load: &[u8]) -> u64
-    ensures { result ≡ checksum (terms B.Trays.trays B.Trays.tray_limit B.Trays.total_limit note_interval bank) load.now }
+    ensures { result ≡ checksum (terms B.Trays note_timed bank) load.now }
 {
     let mut dispatcher = Dispatcher::new(bank);
-    let opened = dispatcher.open(0, 0);
-    let mut sum = mix(0, after_open(0, 0, opened));
+    let mut sum = mix(0, told(dispatcher.open(0, 0).map(|()| OPENED)));
     for byte in load {
-        sum = mix(sum, answer(&mut dispatcher, *byte));
+        sum = mix(sum, told(answer(&mut dispatcher, *byte)));
     }
     sum
 }

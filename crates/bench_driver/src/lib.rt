@@ -5,4 +5,3 @@
 mod driving;
 pub mod exported;
 mod numbers;
-mod over_banks;

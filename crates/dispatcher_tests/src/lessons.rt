@@ -1,6 +1,7 @@
 // Small lessons, each over a row bank and over a chain bank.
-use crate::players::{BLANK, entry, note, play};
+use crate::players::{entry, note, play};
 use banks::bank::Bank;
+use banks::cell::Cell;
 use chains::chain_bank::ChainBank;
 use dispatcher::call::Call;
 use dispatcher::entry::{Figures, Warning};
@@ -56,12 +57,12 @@ fn a_late_note<B: Bank<Item = Note> + Drop>(
 
 #[test]
 fn a_late_note_over_a_row_bank(rt: HostRuntime) -> Result<(), Fail> {
-    a_late_note(&rt, RowBank::new(&mut [BLANK; 256], 4))
+    a_late_note(&rt, RowBank::new(&mut [Cell::default(); 256], 4))
 }
 
 #[test]
 fn a_late_note_over_a_chain_bank(rt: HostRuntime) -> Result<(), Fail> {
-    a_late_note(&rt, ChainBank::new(&mut [BLANK; 256], 4))
+    a_late_note(&rt, ChainBank::new(&mut [Cell::default(); 256], 4))
 }
 
 // A note of the longest interval, posted while a late one waits in the tray of the present cycle: it is no late entry,
@@ -95,12 +96,12 @@ fn the_longest_interval<B: Bank<Item = Note> + Drop>(
 
 #[test]
 fn the_longest_interval_over_a_row_bank(rt: HostRuntime) -> Result<(), Fail> {
-    the_longest_interval(&rt, RowBank::new(&mut [BLANK; 8], 4))
+    the_longest_interval(&rt, RowBank::new(&mut [Cell::default(); 8], 4))
 }
 
 #[test]
 fn the_longest_interval_over_a_chain_bank(rt: HostRuntime) -> Result<(), Fail> {
-    the_longest_interval(&rt, ChainBank::new(&mut [BLANK; 2], 4))
+    the_longest_interval(&rt, ChainBank::new(&mut [Cell::default(); 2], 4))
 }
 
 // A full tray refuses, and a dispatch frees the place: a row tray of two cells, and a chain bank of two cells in all.
@@ -129,10 +130,10 @@ fn room_again<B: Bank<Item = Note> + Drop>(
 
 #[test]
 fn a_row_has_room_again(rt: HostRuntime) -> Result<(), Fail> {
-    room_again(&rt, RowBank::new(&mut [BLANK; 8], 4))
+    room_again(&rt, RowBank::new(&mut [Cell::default(); 8], 4))
 }
 
 #[test]
 fn a_chain_bank_has_room_again(rt: HostRuntime) -> Result<(), Fail> {
-    room_again(&rt, ChainBank::new(&mut [BLANK; 2], 4))
+    room_again(&rt, ChainBank::new(&mut [Cell::default(); 2], 4))
 }

@@ -1,6 +1,5 @@
 // Plays a list of calls on a new dispatcher over any bank, and looks at each answer.
 use banks::bank::Bank;
-use banks::cell::Cell;
 use dispatcher::call::Call;
 use dispatcher::dispatcher::running::run;
 use dispatcher::entry::Entry;
@@ -8,12 +7,6 @@ use dispatcher::event::Event;
 use messages::note::{Note, NoteKind};
 use std::process::Abort;
 use std::test::Fail;
-
-// What the tests' tables hold before the first put.
-pub const BLANK: Cell<Note> = Cell {
-    receipt: 0,
-    message: Note::BLANK,
-};
 
 // A tilt note of pad 7.
 pub fn note(interval: u8) -> Note {
@@ -42,9 +35,6 @@ pub fn play<B: Bank<Item = Note> + Drop>(
     expected: &[Event<Note>],
 ) -> Result<(), Fail> {
     let (_, events) = run(rt.alloc(), bank, calls)?;
-    assert_eq!(rt; events.len(), expected.len());
-    for (event, wanted) in events.as_slice().iter().zip(expected.iter()) {
-        assert_eq!(rt; *event, *wanted);
-    }
+    assert_eq!(rt; events.as_slice(), expected);
     Ok(())
 }

@@ -1,6 +1,7 @@
 // Every refusal that a dispatcher can give.
-use crate::players::{BLANK, entry, note, play};
+use crate::players::{entry, note, play};
 use banks::bank::Bank;
+use banks::cell::Cell;
 use dispatcher::call::Call;
 use dispatcher::event::Event;
 use messages::note::Note;
@@ -11,9 +12,15 @@ use std::test::Fail;
 
 const LIMIT: u32 = 4_000_000_000;
 
-// A call that is refused, and with what.
-fn refused(call: Call<Note>, refusal: Refusal) -> Event<Note> {
-    Event::Refused(call, refusal)
+// Plays the calls over a row bank of eight cells and so many trays.
+fn play_over_rows(
+    rt: &(impl Abort + AllocGlobal),
+    trays: usize,
+    calls: &[Call<Note>],
+    expected: &[Event<Note>],
+) -> Result<(), Fail> {
+    let mut table = [Cell::default(); 8];
+    play(rt, RowBank::new(&mut table, trays), calls, expected)
 }
 
 #[test]
@@ -26,15 +33,8 @@ fn a_shut_dispatcher_refuses_all_but_opening_and_the_question(rt: HostRuntime) -
         Call::Warn(1_001),
         Call::Begin,
     ];
-    let expected = [
-        refused(calls[0], Refusal::Shut),
-        refused(calls[1], Refusal::Shut),
-        refused(calls[2], Refusal::Shut),
-        refused(calls[3], Refusal::Shut),
-        refused(calls[4], Refusal::Shut),
-        refused(calls[5], Refusal::Shut),
-    ];
-    play(&rt, RowBank::new(&mut [BLANK; 8], 4), &calls, &expected)
+    let expected = calls.map(|call| Event::Refused(call, Refusal::Shut));
+    play_over_rows(&rt, 4, &calls, &expected)
 }
 
 #[test]
@@ -54,43 +54,37 @@ fn an_opening_is_refused_for_its_numbers_and_a_second_time(rt: HostRuntime) -> R
         Call::Begin,
     ];
     let expected = [
-        refused(calls[0], Refusal::StartTooHigh),
-        refused(calls[1], Refusal::StartTooHigh),
+        Event::Refused(calls[0], Refusal::StartTooHigh),
+        Event::Refused(calls[1], Refusal::StartTooHigh),
         Event::Opened(LIMIT, LIMIT),
-        refused(calls[3], Refusal::AlreadyOpen),
-        refused(calls[4], Refusal::IntervalOutOfRange),
-        refused(calls[5], Refusal::ReceiptsUsedUp),
-        refused(calls[6], Refusal::NotNextCycle),
-        refused(calls[7], Refusal::CyclesUsedUp),
+        Event::Refused(calls[3], Refusal::AlreadyOpen),
+        Event::Refused(calls[4], Refusal::IntervalOutOfRange),
+        Event::Refused(calls[5], Refusal::ReceiptsUsedUp),
+        Event::Refused(calls[6], Refusal::NotNextCycle),
+        Event::Refused(calls[7], Refusal::CyclesUsedUp),
         Event::Warned(1_000, None),
-        refused(calls[9], Refusal::TooManyServices),
+        Event::Refused(calls[9], Refusal::TooManyServices),
         Event::Begun,
-        refused(calls[11], Refusal::OutOfPhase),
+        Event::Refused(calls[11], Refusal::OutOfPhase),
     ];
-    play(&rt, RowBank::new(&mut [BLANK; 8], 4), &calls, &expected)
+    play_over_rows(&rt, 4, &calls, &expected)
 }
 
 #[test]
 fn a_bank_of_one_tray_is_unfit(rt: HostRuntime) -> Result<(), Fail> {
     let calls = [Call::Open(0, 0)];
-    let expected = [refused(calls[0], Refusal::UnfitBank)];
-    play(&rt, RowBank::new(&mut [BLANK; 8], 1), &calls, &expected)
-}
-
-// Puts a cell into the bank, and then makes a dispatcher over it.
-fn over_a_bank_in_use<B: Bank<Item = Note> + Drop>(
-    rt: &(impl Abort + AllocGlobal),
-    mut bank: B,
-) -> Result<(), Fail> {
-    assert_eq!(rt; bank.put(0, 0, note(1)), Ok(()));
-    let calls = [Call::Open(0, 0)];
-    let expected = [refused(calls[0], Refusal::UnfitBank)];
-    play(rt, bank, &calls, &expected)
+    let expected = [Event::Refused(calls[0], Refusal::UnfitBank)];
+    play_over_rows(&rt, 1, &calls, &expected)
 }
 
 #[test]
 fn a_bank_that_holds_a_cell_is_unfit(rt: HostRuntime) -> Result<(), Fail> {
-    over_a_bank_in_use(&rt, RowBank::new(&mut [BLANK; 8], 4))
+    let mut table = [Cell::default(); 8];
+    let mut bank = RowBank::new(&mut table, 4);
+    assert_eq!(rt; bank.put(0, 0, note(1)), Ok(()));
+    let calls = [Call::Open(0, 0)];
+    let expected = [Event::Refused(calls[0], Refusal::UnfitBank)];
+    play(&rt, bank, &calls, &expected)
 }
 
 #[test]
@@ -110,10 +104,10 @@ fn late_entries_keep_the_turn_back_before_its_cycle_is_looked_at(
         Event::Opened(0, 0),
         Event::Posted(entry(0, 1, 1)),
         Event::Turned(1, 1),
-        refused(calls[3], Refusal::LateWaiting),
+        Event::Refused(calls[3], Refusal::LateWaiting),
         Event::Named(Some(entry(0, 1, 1))),
-        refused(calls[5], Refusal::NotNextCycle),
+        Event::Refused(calls[5], Refusal::NotNextCycle),
         Event::Turned(2, 0),
     ];
-    play(&rt, RowBank::new(&mut [BLANK; 8], 4), &calls, &expected)
+    play_over_rows(&rt, 4, &calls, &expected)
 }

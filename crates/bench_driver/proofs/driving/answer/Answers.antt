@@ -1,17 +1,15 @@
-use Rattle.std.proofs.Common.{sym, ap, ◌∙◌, arith}
-use Rattle.bench_driver.specs.Loads.{note_at}
-use Rattle.dispatcher.specs.declared.call.Call.TheVariants.{Post}
+use Rattle.std.proofs.Common.{arith, rules}
 use Rattle.bench_driver.proofs.Loading.{answers_byte, is_ask, is_post}
 use Rattle.bench_driver.proofs.driving.answer.Goals as goal
 
-pub returns-then-byte-lt128 : goal.returns-then-byte-lt128
-returns-then-byte-lt128 g c =
-    answers_byte _ _ _ _ c.args.byte c.after_post.result
-    (is_post _ c.args.byte c.if-byte-eq0.false c.if-byte-lt128.true
-    ∙ ap (λ z. Post (note_at z c.args.byte)) (sym c.cycle.ensures)
-    ∙ ap Post (sym c.note-message.ensures))
-    c.after_post.ensures c.post.ensures.steps
+pub returns-in_err-slip-in_default : goal.returns-in_err-slip-in_default
+returns-in_err-slip-in_default g c =
+    answers_byte c.args.byte (is_post _ _ c.args.byte _ c.cycle.ensures c.note-message.ensures (omega arith) (omega arith)) (search rules) c.in_err-slip-in_default.ensures.lawful.steps
 
-pub returns : goal.returns
-returns g c =
-    answers_byte _ _ _ _ c.args.byte c.after_ask.result (is_ask _ c.args.byte (omega arith)) c.after_ask.ensures c.ask.ensures.steps
+pub returns-in_ok-slip-in_default : goal.returns-in_ok-slip-in_default
+returns-in_ok-slip-in_default g c =
+    answers_byte c.args.byte (is_post _ _ c.args.byte _ c.cycle.ensures c.note-message.ensures (omega arith) (omega arith)) c.entry_number.ensures c.in_ok-slip-in_default.ensures.lawful.steps
+
+pub returns-in_default-2 : goal.returns-in_default-2
+returns-in_default-2 g c =
+    answers_byte c.args.byte (is_ask _ c.args.byte (omega arith)) c.mix.ensures c.ask-figures.ensures.lawful.steps
