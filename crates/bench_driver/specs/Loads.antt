@@ -1,6 +1,5 @@
 -- Loads: what their bytes stand for, and the checksum of what is answered.
 use Rattle.std.specs.Prelude.{◌≡◌, ℕ, ◌+◌, ◌-◌, ◌*◌, false, cond, List, [], ◌∷◌, ◌++◌, fold, ◌==◌, nat_lt}
-use Rattle.messages.specs.declared.message.Timed
 use Rattle.messages.specs.declared.note.Note.{Note}
 use Rattle.messages.specs.declared.note.NoteKind.TheVariants.{Tilt}
 use Rattle.rows.specs.Rings.{row_limit, row_number}
@@ -35,10 +34,6 @@ checksum b load = fold (λ sum e. mixed sum (number_of e)) 0 (run b (calls_of b 
 -- the interval that a note tells
 abbrev pub note_interval : Note → ℕ
 note_interval n = n.interval
-
--- the same, as the ghost members of a timed message
-abbrev pub note_timed : Timed.Ghosts Note
-note_timed = record { interval = note_interval }
 
 -- what a dispatcher is made with over an empty row bank, and over an empty chain bank, of so many cells and trays
 abbrev pub terms_over_rows : ℕ → ℕ → Terms Note

@@ -1,6 +1,6 @@
 // A load on a dispatcher over any bank of notes.
 ghost use Rattle.std.specs.Prelude.{◌≡◌};
-ghost use Rattle.bench_driver.specs.Loads.{AnswersByte, checksum, note_at, note_timed};
+ghost use Rattle.bench_driver.specs.Loads.{AnswersByte, checksum, note_at, note_interval};
 ghost use Rattle.bench_driver.specs.Numbers.{number_told};
 ghost use Rattle.dispatcher.specs.Steps.{terms};
 ghost use Rattle.dispatcher.specs.Views.{view};
@@ -54,7 +54,7 @@ fn answer<B: Bank<Item = Note>>(dispatcher: &mut Dispatcher<B>, byte: u8) -> Res
 // Makes the calls of a load on a new dispatcher over the bank, one after another.
 #[tactic(auto, using(crate::proofs::Loading::summed_next))]
 pub(crate) fn drive<B: Bank<Item = Note> + Drop>(bank: B, load: &[u8]) -> u64
-    ensures { result ≡ checksum (terms B.Trays note_timed bank) load.now }
+    ensures { result ≡ checksum (terms B.Trays note_interval bank) load.now }
 {
     let mut dispatcher = Dispatcher::new(bank);
     let mut sum = mix(0, told(dispatcher.open(0, 0).map(|()| OPENED)));
