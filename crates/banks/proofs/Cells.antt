@@ -1,5 +1,5 @@
 -- Cells of a table after one is written, lists of one element, and a take from an empty tray.
-use Rattle.std.proofs.Common.{◌≡◌, ℕ, zero, suc, ◌<◌, List, [], ◌∷◌, length, get_or, take, set, replicate, None, sym, refl, ap, ◌∙◌, arith}
+use Rattle.std.proofs.Common.{◌≡◌, ℕ, zero, suc, ◌<◌, List, [], ◌∷◌, length, get_or, set, replicate, None, sym, refl, ap, ◌∙◌, arith}
 use Rattle.std.proofs.lemmas.List.{set-get_or}
 use Rattle.banks.specs.Tables.{cell_at}
 use Rattle.banks.specs.Trays.{first_of, tray_at, without_first}
@@ -31,13 +31,6 @@ pub get_or_replicate_self : {C : Type 0} (n k : ℕ) (d : C) → get_or (replica
 get_or_replicate_self zero k d = refl
 get_or_replicate_self (suc n) zero d = refl
 get_or_replicate_self (suc n) (suc k) d = get_or_replicate_self n k d
-
--- a write to a front of a list
-pub take_set : {C : Type 0} (n : ℕ) (l : List C) (i : ℕ) (a : C) → take n (set l i a) ≡ set (take n l) i a
-take_set zero l i a = refl
-take_set (suc n) [] i a = refl
-take_set (suc n) (x ∷ l) zero a = refl
-take_set (suc n) (x ∷ l) (suc i) a = ap (λ t. x ∷ t) (take_set n l i a)
 
 -- what a take finds and leaves where the tray is empty
 pub take_none : {C : Type 0} (ts : List (List C)) (k : ℕ) → tray_at ts k ≡ [] → (None ≡ first_of (tray_at ts k)) × (ts ≡ set ts k (without_first (tray_at ts k)))

@@ -2,9 +2,10 @@
 use Rattle.std.proofs.Common.{◌≡◌, ℕ, zero, suc, ◌+◌, ◌-◌, ◌<◌, ◌≤◌, List, [], ◌∷◌, ◌++◌, length, get_or, take, set, replicate, Some, sym, refl, ap, ◌∙◌, inl, inr, append_assoc, append-nil, arith, length-append, length-take}
 use Rattle.std.proofs.lemmas.List.{take-replicate, get_or_past, get_or-take}
 use Rattle.std.proofs.lemmas.Bool.{cases_lt}
+use Rattle.std.proofs.Math.Seq.{take-set-lt}
 use Rattle.banks.specs.Tables.{cell_at}
 use Rattle.banks.specs.Trays.{tray_at, held_in, first_of, without_first}
-use Rattle.banks.proofs.Cells.{cell_other, cell_same, cell_read, cell_one, take_set}
+use Rattle.banks.proofs.Cells.{cell_other, cell_same, cell_read, cell_one}
 use Rattle.chains.specs.declared.link.Link.{Link}
 use Rattle.chains.specs.Chains.{no_link, link_at, step, place, Has, Inside, Free, counted, popped, Grown, chain_cells, chain_rows, chain_trays}
 use Rattle.chains.specs.ChainLaws.{rows_length}
@@ -113,7 +114,7 @@ pop_rows cells next heads n k c l some lt read =
     rows_at cells next (take n heads) k ∙ ap (at_link cells next) (get_or-take n heads k no_link l) ∙ ap (chain_cells cells next h.first) one
     ∙ chain_first cells next h.first (h.count - 1) ∙ ap (λ t. t ++ at_link cells next new) (cell_read cells h.first c lt read) in (
       sym (ap first_of tray),
-      ap (chain_rows cells next) (take_set n heads k new) ∙ rows_set cells next (take n heads) k new
+      ap (chain_rows cells next) (take-set-lt n heads k new l) ∙ rows_set cells next (take n heads) k new
           ∙ ap (λ t. set (chain_trays cells next n heads) k t) (sym (ap without_first tray)),
     )
 
@@ -121,7 +122,7 @@ pop_rows cells next heads n k c l some lt read =
 pub counted_front : (heads : List Link) (n k : ℕ) (h' : Link) → k < n → n ≤ length heads → counted (take n (set heads k h')) + (link_at heads k).count ≡ counted (take n heads) + h'.count
 counted_front heads n k h' l long =
     let len : length (take n heads) ≡ n = rw length-take (omega arith) in
-    let cut = ap counted (take_set n heads k h') in
+    let cut = ap counted (take-set-lt n heads k h' l) in
     let sum = counted_set (take n heads) k h' (omega arith) in
     let kept = ap (λ h. h.count) (get_or-take n heads k no_link l) in
     omega arith

@@ -8,7 +8,8 @@ use Rattle.std.proofs.lemmas.List.Sums.{sum_by-cons}
 use Rattle.std.specs.List.{sum_by}
 use Rattle.std.proofs.lemmas.Bool.{cases_lt, cases_order}
 use Rattle.rows.specs.RowLaws.{rings_length, rings_at, counted_within, held_at_most, within_front}
-use Rattle.banks.proofs.Cells.{cell_one, cell_other, cell_read, cell_same, take_set}
+use Rattle.banks.proofs.Cells.{cell_one, cell_other, cell_read, cell_same}
+use Rattle.std.proofs.Math.Seq.{take-set-lt}
 use Rattle.banks.specs.Tables.{cell_at}
 use Rattle.banks.specs.Trays.{tray_at, held_in, first_of, without_first}
 
@@ -178,7 +179,7 @@ row_put cells size n heads k c l fits room =
     let m : (h.first + h.count) % size < size = mod-lt (h.first + h.count) (omega arith) in
     let long = row_fits k n size (length cells) l fits in
     let new = one_more h in
-    let cut : take n (set heads k new) ≡ set (take n heads) k new = take_set n heads k new in
+    let cut : take n (set heads k new) ≡ set (take n heads) k new = take-set-lt n heads k new l in
     let step = rings_step cells (set cells at c) size 0 (take n heads) k new (omega arith)
     (λ j s. cell_other cells at j c (λ e. elim s [ inl u ↦ omega arith | inr u ↦ omega arith ])) in
     let z : 0 + k * size ≡ k * size = zero-add (k * size) in
@@ -202,7 +203,7 @@ row_take cells size n heads k c l fits pos some read =
     let tray : tray_at (row_trays cells size n heads) k ≡ c ∷ rest =
     row_at cells size n heads k l ∙ ap (λ j. ring cells (k * size) size h.first j) one
     ∙ ap (λ t. t ++ rest) (cell_read cells (k * size + h.first % size) c (omega arith) (rw add-zero at read)) in
-    let cut : take n (set heads k new) ≡ set (take n heads) k new = take_set n heads k new in
+    let cut : take n (set heads k new) ≡ set (take n heads) k new = take-set-lt n heads k new l in
     let step = rings_step cells cells size 0 (take n heads) k new pos (λ j s. refl) in
     let z : 0 + k * size ≡ k * size = zero-add (k * size) in
     let turned = ring_mod cells (k * size) size (h.first + 1) (h.count - 1) in
