@@ -10,7 +10,8 @@ pub mod questions;
 pub mod running;
 
 // A bank, and the dispatcher's own numbers. Entries lie in the bank and nowhere else, each in the tray of its deadline
-// cycle.
+// cycle. That the numbers agree with the bank is said by each call's contract: as a ghost field it would have to hold after
+// each assignment of a call.
 #[derive(Drop)]
 pub struct Dispatcher<B: Bank>
 where

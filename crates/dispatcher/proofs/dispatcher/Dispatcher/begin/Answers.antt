@@ -19,10 +19,10 @@ pub returns-then-self-clause-lawful : goal.returns-then-self-clause-lawful
 returns-then-self-clause-lawful g c =
     let d = c.args.self.now in
     let some : d.ring ≡ Some c.in_ok-ok_or.field-0 = found d _ _ c.ok_or.ensures.ok_part c.in_ok-ok_or.was in
-    lawful d d Begin _ (λ b s w. refuse b _ s Begin w OutOfPhase (skip _ Shut _ (ap not (opened d _ some)) ∙ here _ OutOfPhase _ c.if-self.true))
+    lawful d d Begin _ (λ b s w. refuse b _ s Begin w OutOfPhase (skip _ Shut _ (ap not (opened d _ some)) ∙ here d.begun OutOfPhase _ (cc)))
 
 pub returns-clause-lawful : goal.returns-clause-lawful
 returns-clause-lawful g c =
     let d = c.args.self.now in
     let some : d.ring ≡ Some c.in_ok-ok_or.field-0 = found d _ _ c.ok_or.ensures.ok_part c.in_ok-ok_or.was in
-    lawful d _ Begin _ (λ b s w. begins b (view d) s w (opened d _ some) c.if-self.false)
+    lawful d _ Begin _ (λ b s w. begins b (view d) s w (opened d _ some) (cc))
