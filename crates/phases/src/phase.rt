@@ -4,6 +4,7 @@
 // reach the next one.
 ghost use Rattle.std.specs.Prelude.{◌≡◌, ◌≢◌, ◌≤◌, IfErr, OnOk};
 ghost use Rattle.dispatcher.specs.Views.{view};
+ghost use Rattle.phases.specs.declared.phase.TheConstants.{MOST_COUNTED};
 ghost use Rattle.messages.specs.declared.refusal.Refusal.TheVariants.{OutOfPhase};
 
 use banks::bank::Bank;
@@ -15,6 +16,9 @@ pub mod detecting;
 pub mod outputting;
 pub mod reacting;
 pub mod reporting;
+
+// The most dispatches that are counted: a dispatch beyond still happens.
+pub const MOST_COUNTED: u32 = 4_000_000_000;
 
 // The late entries are named.
 #[derive(Debug, PartialEq, Eq)]
@@ -32,9 +36,9 @@ pub struct Detect {
 #[derive(Debug, PartialEq, Eq)]
 pub struct React {
     cycle: u32,
-    // how many entries were dispatched; it stays at 4,000,000,000
+    // how many entries were dispatched; it stays at `MOST_COUNTED`
     dispatched: u32,
-    ghost few: { dispatched ≤ 4000000000 },
+    ghost few: { dispatched ≤ MOST_COUNTED },
 }
 
 // The reaction is given out, and the timer begins the next cycle. The count is that of the react phase; a type of its own
@@ -43,7 +47,7 @@ pub struct React {
 pub struct Output {
     cycle: u32,
     dispatched: u32,
-    ghost few: { dispatched ≤ 4000000000 },
+    ghost few: { dispatched ≤ MOST_COUNTED },
 }
 
 // What an accepted turn answers: how many entries became late, and the report phase of the new cycle.

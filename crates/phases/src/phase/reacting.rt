@@ -4,15 +4,12 @@ ghost use Rattle.dispatcher.specs.declared.call.Call.TheVariants.{Dispatch, Warn
 ghost use Rattle.dispatcher.specs.declared.event.Event.TheVariants.{Dispatched, Warned};
 ghost use Rattle.phases.specs.Calls.{Called, counted};
 
-use crate::phase::{Output, React, in_cycle};
+use crate::phase::{MOST_COUNTED, Output, React, in_cycle};
 use banks::bank::Bank;
 use dispatcher::dispatcher::Dispatcher;
 use dispatcher::entry::{Entry, Warning};
 use messages::message::Timed;
 use messages::refusal::Refusal;
-
-// The most dispatches that are counted.
-const MOST: u32 = 4_000_000_000;
 
 impl React {
     // Dispatches an entry, and counts it.
@@ -29,7 +26,7 @@ impl React {
         in_cycle(dispatcher, self.cycle)?;
         let given = dispatcher.dispatch()?;
         if given.is_some() {
-            self.dispatched = (self.dispatched + 1).min(MOST);
+            self.dispatched = (self.dispatched + 1).min(MOST_COUNTED);
         }
         Ok(given)
     }
