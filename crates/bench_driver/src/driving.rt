@@ -8,7 +8,6 @@ ghost use Rattle.dispatcher.specs.Views.{view};
 use crate::numbers::{NONE_DISPATCHED, NONE_NAMED, OPENED, entry_number, halves, mix, told};
 use banks::bank::Bank;
 use dispatcher::dispatcher::Dispatcher;
-use dispatcher::entry::Entry;
 use messages::note::{Note, NoteKind};
 use messages::refusal::Refusal;
 
@@ -32,11 +31,7 @@ fn answer<B: Bank<Item = Note>>(dispatcher: &mut Dispatcher<B>, byte: u8) -> Res
         interval if interval < 128 => {
             let message = note(dispatcher.cycle(), interval);
             let slip = dispatcher.post(message)?;
-            Ok(entry_number(Entry {
-                receipt: slip.receipt,
-                message,
-                deadline: slip.deadline,
-            }))
+            Ok(entry_number(slip.entry(message)))
         }
         128 => {
             let next = dispatcher.cycle() + 1;

@@ -7,6 +7,7 @@ use Rattle.banks.specs.Trays.{Takes}
 use Rattle.messages.specs.declared.message.Message
 use Rattle.messages.specs.declared.message.Timed
 use Rattle.messages.specs.declared.refusal.Refusal.{Refusal}
+use Rattle.messages.specs.declared.refusal.Refusal.TheVariants.{Shut}
 use Rattle.dispatcher.specs.declared.dispatcher.Dispatcher.{Dispatcher}
 use Rattle.dispatcher.specs.declared.entry.Entry.{Entry}
 use Rattle.dispatcher.specs.declared.ring.Ring.{Ring}
@@ -36,6 +37,11 @@ module _ {B M : Type 0} {t : Trays.Ghosts B M} {m : Message.Ghosts M} {i : Timed
 
   pub shut : d.ring ≡ None → (view d).is_open ≡ false
   shut e = ap is_some e
+
+  -- a call whose first test is that the dispatcher is open, where there is no ring
+  pub refuses_shut : {X : Type 0} (c : Call M) (f : X → Event M) (r : Result X Refusal) (q : Result Ring Refusal) (k : Refusal) → d.ring ≡ result_ok q → q ≡ Err k → r ≡ Err Shut → ((b : Terms M) (s : State M) → (view d).is_open ≡ false → refusal b (state_of (view d) s.pending s.waiting) c ≡ Some Shut) → LawfulCall d d c (answered c f r)
+  refuses_shut c f r q k e n h test =
+      refuses c f r Shut h (λ b s w. test b s (shut (missing q k e n)))
 
   pub span_is : (ring : Ring) → d.ring ≡ Some ring → ring.span ≡ (view d).span
   span_is ring e = ap span_of (sym e)

@@ -19,7 +19,7 @@ pub struct Slip {
 
 impl Slip {
     // The entry of the message that was posted.
-    pub(crate) fn entry<M>(self, message: M) -> Entry<M>
+    pub fn entry<M>(self, message: M) -> Entry<M>
         ensures { result ≡ entered self message }
     {
         Entry {

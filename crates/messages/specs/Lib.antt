@@ -1,4 +1,5 @@
 pub mod Notes
+pub mod Numbers
 pub mod Pens
 pub mod Refusals
 pub mod Texts

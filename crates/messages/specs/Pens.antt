@@ -1,8 +1,7 @@
 -- What a pen message tells in each stage of a line.
-use Rattle.std.specs.Prelude.{◌≡◌, ◌≢◌, ℕ, Result, MatchResult}
+use Rattle.std.specs.Prelude.{ℕ}
 use Rattle.messages.specs.declared.pen.Stage.{Stage}
 use Rattle.messages.specs.declared.pen.Stage.TheVariants.{Down, Sample, Up}
-use Rattle.messages.specs.declared.unknown.UnknownNumber.{UnknownNumber}
 
 pub record Telling : Type 0 where
   pub kind : ℕ
@@ -12,8 +11,3 @@ abbrev pub told_by : Stage → Telling
 told_by Down = record { kind = 1; interval = 1 }
 told_by Sample = record { kind = 2; interval = 2 }
 told_by Up = record { kind = 3; interval = 3 }
-
--- the stage of pen messages of this kind, or that there is none
-abbrev pub IsStageOf : ℕ → Result Stage UnknownNumber → Type 0
-IsStageOf kind r =
-    MatchResult r (λ s. (told_by s).kind ≡ kind) (λ e. (e.0 ≡ kind) × ((s : Stage) → (told_by s).kind ≢ kind))

@@ -1,6 +1,7 @@
 // Notes: what a pad reports besides the pen.
 ghost use Rattle.std.specs.Prelude.{◌≡◌, Some};
-ghost use Rattle.messages.specs.Notes.{IsKindOf, kind_number};
+ghost use Rattle.messages.specs.Notes.{kind_number};
+ghost use Rattle.messages.specs.Numbers.{HasNumber};
 ghost use Rattle.messages.specs.Texts.{kind_name, note_text};
 
 use crate::message::{Message, Timed};
@@ -29,7 +30,7 @@ impl NoteKind {
 impl TryFrom<u8> for NoteKind {
     type Error = UnknownNumber;
 
-    ghost try_from_gives = { IsKindOf };
+    ghost try_from_gives = { HasNumber kind_number };
 
     fn try_from(number: u8) -> Result<NoteKind, UnknownNumber> {
         match number {

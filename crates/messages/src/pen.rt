@@ -1,6 +1,7 @@
 // Messages of a pen on a pad.
 ghost use Rattle.std.specs.Prelude.{◌≡◌, Some};
-ghost use Rattle.messages.specs.Pens.{IsStageOf, told_by};
+ghost use Rattle.messages.specs.Numbers.{HasNumber};
+ghost use Rattle.messages.specs.Pens.{told_by};
 ghost use Rattle.messages.specs.Texts.{pen_text, stage_name};
 
 use crate::message::{Message, Timed};
@@ -40,7 +41,7 @@ impl Stage {
 impl TryFrom<u8> for Stage {
     type Error = UnknownNumber;
 
-    ghost try_from_gives = { IsStageOf };
+    ghost try_from_gives = { HasNumber (λ stage. (told_by stage).kind) };
 
     fn try_from(kind: u8) -> Result<Stage, UnknownNumber> {
         match kind {

@@ -1,7 +1,6 @@
 -- How headers and steps are written as bytes. A byte that means nothing is 0.
-use Rattle.std.specs.Prelude.{◌≡◌, ◌≢◌, ℕ, ◌/◌, ◌%◌, ◌<◌, ◌≤◌, List, [], ◌∷◌, ◌++◌, length, replicate, Result, MatchResult}
+use Rattle.std.specs.Prelude.{◌≡◌, ℕ, ◌/◌, ◌%◌, ◌<◌, ◌≤◌, List, [], ◌∷◌, ◌++◌, length, replicate}
 use Rattle.std.specs.List.{flat_map}
-use Rattle.messages.specs.declared.unknown.UnknownNumber.{UnknownNumber}
 use Rattle.steps.specs.declared.header.MessageType.{MessageType}
 use Rattle.steps.specs.declared.header.MessageType.TheVariants as type
 use Rattle.steps.specs.declared.header.BankKind.{BankKind}
@@ -27,15 +26,6 @@ type_number type.Note = 2
 abbrev pub bank_number : BankKind → ℕ
 bank_number Row = 1
 bank_number Chain = 2
-
--- the type and the bank with this number, or that there is none
-abbrev pub IsTypeOf : ℕ → Result MessageType UnknownNumber → Type 0
-IsTypeOf number r =
-    MatchResult r (λ t. type_number t ≡ number) (λ e. (e.0 ≡ number) × ((t : MessageType) → type_number t ≢ number))
-
-abbrev pub IsBankOf : ℕ → Result BankKind UnknownNumber → Type 0
-IsBankOf number r =
-    MatchResult r (λ b. bank_number b ≡ number) (λ e. (e.0 ≡ number) × ((b : BankKind) → bank_number b ≢ number))
 
 -- the mark "EVQ", the version 1, the type, the number of trays and the bank
 abbrev pub header_bytes : Header → List ℕ

@@ -1,6 +1,7 @@
 // The first eight bytes of a steps file.
 ghost use Rattle.std.specs.Prelude.{◌≡◌};
-ghost use Rattle.steps.specs.Layout.{IsBankOf, IsTypeOf};
+ghost use Rattle.messages.specs.Numbers.{HasNumber};
+ghost use Rattle.steps.specs.Layout.{bank_number, type_number};
 ghost use Rattle.steps.specs.Reading.{IsHeader, Reads};
 ghost use Rattle.steps.specs.Tables.{ranges_of_header};
 
@@ -19,7 +20,7 @@ pub enum MessageType {
 impl TryFrom<u8> for MessageType {
     type Error = UnknownNumber;
 
-    ghost try_from_gives = { IsTypeOf };
+    ghost try_from_gives = { HasNumber type_number };
 
     fn try_from(number: u8) -> Result<MessageType, UnknownNumber> {
         match number {
@@ -41,7 +42,7 @@ pub enum BankKind {
 impl TryFrom<u8> for BankKind {
     type Error = UnknownNumber;
 
-    ghost try_from_gives = { IsBankOf };
+    ghost try_from_gives = { HasNumber bank_number };
 
     fn try_from(number: u8) -> Result<BankKind, UnknownNumber> {
         match number {

@@ -70,14 +70,14 @@ where
     {
         let ring = self.ring.ok_or(Refusal::Shut)?;
         let interval = message.interval();
-        if interval == 0 || interval as usize > ring.span() {
+        if interval == 0 || usize::from(interval) > ring.span() {
             return Err(Refusal::IntervalOutOfRange);
         }
         if self.receipt >= LIMIT {
             return Err(Refusal::ReceiptsUsedUp);
         }
         let receipt = self.receipt;
-        let deadline = self.cycle + interval as u32;
+        let deadline = self.cycle + u32::from(interval);
         self.bank.put(ring.tray_of(deadline), receipt, message)?;
         self.receipt = receipt + 1;
         self.accepted = self.accepted.saturating_add(1);
@@ -89,7 +89,7 @@ where
         ensures { FirstHeld (view self.now).trays ring.span (view self.now).cycle result }
     {
         // a `find` over these cycles would want a sum that fits for every number, not only for those up to the span
-        for ahead in 1..ring.span() + 1 {
+        for ahead in 1..=ring.span() {
             if self.bank.count(ring.tray_of(self.cycle + ahead as u32)) > 0 {
                 return Some(ahead);
             }
@@ -149,7 +149,7 @@ where
         ensures { Foresees self.now services result }
     {
         let mut due: usize = 0;
-        for ahead in 1..ring.span() + 1 {
+        for ahead in 1..=ring.span() {
             let tray = ring.tray_of(self.cycle + ahead as u32);
             due = due.saturating_add(self.bank.count(tray));
             if due > services * ahead {
@@ -206,10 +206,8 @@ where
     fn waiting(&self) -> usize
         ensures { result ≡ waiting_in (view self.now) }
     {
-        match self.ring {
-            Some(ring) => self.bank.count(ring.tray_of(self.cycle)),
-            None => 0,
-        }
+        self.ring
+            .map_or(0, |ring| self.bank.count(ring.tray_of(self.cycle)))
     }
 }
 

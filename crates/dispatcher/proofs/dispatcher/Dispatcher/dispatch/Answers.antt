@@ -1,9 +1,9 @@
-use Rattle.std.proofs.Common.{◌≡◌, ◌+◌, Some, Err, not, ap, subst, arith, rules}
+use Rattle.std.proofs.Common.{◌≡◌, ◌+◌, Some, not, ap, subst, arith, rules}
 use Rattle.messages.specs.declared.refusal.Refusal.TheVariants.{Shut}
 use Rattle.dispatcher.specs.declared.call.Call.TheVariants.{Dispatch}
 use Rattle.dispatcher.specs.Views.{view}
 use Rattle.dispatcher.proofs.Calling.{here}
-use Rattle.dispatcher.proofs.Opened.{found, missing, opened, refuses, shut, span_is, taken}
+use Rattle.dispatcher.proofs.Opened.{found, opened, refuses_shut, span_is, taken}
 use Rattle.dispatcher.proofs.RealRuns.{lawful}
 use Rattle.std.specs.Prelude.{[]}
 use Rattle.dispatcher.specs.Search.{FirstHeld, tray_ahead}
@@ -12,10 +12,7 @@ use Rattle.dispatcher.proofs.dispatcher.Dispatcher.dispatch.Goals as goal
 
 pub returns-in_err-ring-clause-lawful : goal.returns-in_err-ring-clause-lawful
 returns-in_err-ring-clause-lawful g c =
-    let d = c.args.self.now in
-    let none = missing d _ _ c.ok_or.ensures.ok_part c.in_err-ring.was in
-    let r : c.from_residual.result ≡ Err Shut = search rules in
-    refuses d Dispatch _ c.from_residual.result Shut r (λ b s w. here _ Shut _ (ap not (shut d none)))
+    refuses_shut c.args.self.now Dispatch _ c.from_residual.result _ _ c.ok_or.ensures.ok_part c.in_err-ring.was (search rules) (λ b s o. here _ Shut _ (ap not o))
 
 pub returns-in_default-clause-lawful : goal.returns-in_default-clause-lawful
 returns-in_default-clause-lawful g c =

@@ -11,19 +11,16 @@ use Rattle.dispatcher.specs.Views.{view}
 use Rattle.dispatcher.specs.WholeRuns.{LawfulCall}
 use Rattle.dispatcher.proofs.Calling.{here, post_full, post_used_up, post_wrong, posts}
 use Rattle.dispatcher.proofs.Keeps.{inside}
-use Rattle.dispatcher.proofs.Opened.{found, missing, opened, refuses, shut, span_is, tray_is}
+use Rattle.dispatcher.proofs.Opened.{found, opened, refuses_shut, span_is, tray_is}
 use Rattle.dispatcher.proofs.Putting.{put_full, put_placed, put_refused}
 use Rattle.dispatcher.proofs.RealRuns.{lawful}
 use Rattle.dispatcher.proofs.SameBank.{same_bank}
 use Rattle.dispatcher.proofs.dispatcher.Dispatcher.post.Goals as goal
-use Rattle.dispatcher.proofs.dispatcher.Dispatcher.post.Goals.{then-interval-eq0-via-then-interval-eq0, then-interval-eq0-via-else-interval-eq0+then-interval-span}
+use Rattle.dispatcher.proofs.dispatcher.Dispatcher.post.Goals.{then-interval-eq0-via-then-interval-eq0, then-interval-eq0-via-else-interval-eq0+then-from-span}
 
 pub returns-in_err-ring-clause-lawful : goal.returns-in_err-ring-clause-lawful
 returns-in_err-ring-clause-lawful g c =
-    let d = c.args.self.now in
-    let none = missing d _ _ c.ok_or.ensures.ok_part c.in_err-ring.was in
-    let r : c.from_residual.result ≡ Err Shut = search rules in
-    refuses d (Post c.args.message) _ c.from_residual.result Shut r (λ b s w. here _ Shut _ (ap not (shut d none)))
+    refuses_shut c.args.self.now (Post c.args.message) _ c.from_residual.result _ _ c.ok_or.ensures.ok_part c.in_err-ring.was (search rules) (λ b s o. here _ Shut _ (ap not o))
 
 pub returns-then-interval-eq0-clause-lawful : goal.returns-then-interval-eq0-clause-lawful
 returns-then-interval-eq0-clause-lawful g c =
@@ -33,7 +30,7 @@ returns-then-interval-eq0-clause-lawful g c =
     let wrong : (c.interval-interval.result ≡ 0) ⊎ ((view d).span < c.interval-interval.result) =
     elim c.then-interval-eq0.branch [
       | then-interval-eq0-via-then-interval-eq0 w ↦ inl w.if-interval-eq0.true
-      | then-interval-eq0-via-else-interval-eq0+then-interval-span w ↦ inr (let e = w.span.ensures.span in let l = w.if-interval-span.true in omega arith)
+      | then-interval-eq0-via-else-interval-eq0+then-from-span w ↦ inr (let e = w.span.ensures.span in let j = w.from.ensures in let l = w.if-from-span.true in omega arith)
     ] in
     lawful d d (Post c.args.message) _ (λ b s w. post_wrong b (view d) s w c.args.message c.interval-interval.result (opened d _ some) (sym c.interval-interval.ensures) wrong)
 
@@ -48,7 +45,8 @@ returns-then-self-ge-LIMIT-clause-lawful g c =
 pub returns-in_err-put-clause-lawful : goal.returns-in_err-put-clause-lawful
 returns-in_err-put-clause-lawful g c =
     let d = c.args.self.now in
-    let i = c.interval-interval.result in
+    let i = c.from-2.result in
+    let told = c.from-2.ensures ∙ c.interval-interval.ensures in
     let some = found d _ _ c.ok_or.ensures.ok_part c.in_ok-ring.was in
     let span = span_is d _ some in
     let tray = c.tray_of.ensures ∙ tray_is d _ (d.cycle + i) some in
@@ -61,7 +59,7 @@ returns-in_err-put-clause-lawful g c =
     let full = put_full g.B.Trays.trays g.B.Trays.tray_limit g.B.Trays.total_limit d.bank c.put.new.self _ cell _ put k in
     let r : c.from_residual-in_err-put.result ≡ Err Full = let e = (put.full k full).0 in search rules in
     subst (λ x. ((step b s (Post c.args.message)).0 ≡ answered (Post c.args.message) (λ p. Posted (entered p c.args.message)) x) × Shows b (view d) (step b s (Post c.args.message)).1) (sym r)
-    (post_full b (view d) s w c.args.message i (opened d _ some) (sym c.interval-interval.ensures) (omega arith) (omega arith) c.if-self-ge-LIMIT.false full)))
+    (post_full b (view d) s w c.args.message i (opened d _ some) (sym told) (omega arith) (omega arith) c.if-self-ge-LIMIT.false full)))
 
 pub returns-in_err-put-clause-same : goal.returns-in_err-put-clause-same
 returns-in_err-put-clause-same g c =
@@ -72,7 +70,8 @@ returns-in_err-put-clause-same g c =
 pub returns-clause-lawful : goal.returns-clause-lawful
 returns-clause-lawful g c =
     let d = c.args.self.now in
-    let i = c.interval-interval.result in
+    let i = c.from-2.result in
+    let told = c.from-2.ensures ∙ c.interval-interval.ensures in
     let some = found d _ _ c.ok_or.ensures.ok_part c.in_ok-ring.was in
     let span = span_is d _ some in
     let tray = c.tray_of.ensures ∙ tray_is d _ (d.cycle + i) some in
@@ -81,4 +80,4 @@ returns-clause-lawful g c =
     let o = opened d _ some in
     lawful d _ (Post c.args.message) _ (λ b s w.
     let p = put_placed g.B.Trays.trays g.B.Trays.tray_limit g.B.Trays.total_limit d.bank c.put.new.self _ cell _ put (inside (w.agrees.running o) (d.cycle + i)) in
-    posts b (view d) s w c.args.message i _ _ _ c.saturating_add-self.result o (sym c.interval-interval.ensures) (omega arith) (omega arith) c.if-self-ge-LIMIT.false p.0.0 p.0.1 p.1 put.limits.0 put.limits.1 (λ l. omega arith))
+    posts b (view d) s w c.args.message i _ _ _ c.saturating_add-self.result o (sym told) (omega arith) (omega arith) c.if-self-ge-LIMIT.false p.0.0 p.0.1 p.1 put.limits.0 put.limits.1 (λ l. omega arith))

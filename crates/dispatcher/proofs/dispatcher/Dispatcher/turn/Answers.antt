@@ -1,9 +1,9 @@
-use Rattle.std.proofs.Common.{◌≡◌, Err, not, length, refl, ap, ◌∙◌, arith, rules}
+use Rattle.std.proofs.Common.{not, length, refl, ap, ◌∙◌, arith, rules}
 use Rattle.messages.specs.declared.refusal.Refusal.TheVariants.{Shut}
 use Rattle.dispatcher.specs.declared.call.Call.TheVariants.{Turn}
 use Rattle.dispatcher.specs.Views.{view}
 use Rattle.dispatcher.proofs.Calling.{here}
-use Rattle.dispatcher.proofs.Opened.{found, missing, opened, refuses, shut, tray_is}
+use Rattle.dispatcher.proofs.Opened.{found, opened, refuses_shut, tray_is}
 use Rattle.dispatcher.proofs.RealRuns.{lawful}
 use Rattle.banks.specs.Trays.{tray_at}
 use Rattle.dispatcher.proofs.SameBank.{same_bank}
@@ -12,10 +12,7 @@ use Rattle.dispatcher.proofs.dispatcher.Dispatcher.turn.Goals as goal
 
 pub returns-in_err-ring-clause-lawful : goal.returns-in_err-ring-clause-lawful
 returns-in_err-ring-clause-lawful g c =
-    let d = c.args.self.now in
-    let none = missing d _ _ c.ok_or.ensures.ok_part c.in_err-ring.was in
-    let r : c.from_residual.result ≡ Err Shut = search rules in
-    refuses d (Turn c.args.cycle) _ c.from_residual.result Shut r (λ b s w. here _ Shut _ (ap not (shut d none)))
+    refuses_shut c.args.self.now (Turn c.args.cycle) _ c.from_residual.result _ _ c.ok_or.ensures.ok_part c.in_err-ring.was (search rules) (λ b s o. here _ Shut _ (ap not o))
 
 pub returns-then-count-gt0-clause-lawful : goal.returns-then-count-gt0-clause-lawful
 returns-then-count-gt0-clause-lawful g c =
