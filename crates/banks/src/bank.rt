@@ -32,7 +32,9 @@ pub trait Trays {
     ghost all_within_the_total: { (b : Self) → held_in (trays b) ≤ total_limit b };
 }
 
-// The calls of a bank. No call changes the number of trays or a limit, and a question changes nothing.
+// The calls of a bank. No call changes the number of trays or a limit, and a question changes nothing. `Puts` and `Takes`
+// are told the three ghost members one by one: a record of them is the trait `Trays` itself, and this file cannot import
+// definitions that speak of a trait of its own.
 pub trait Bank: Trays {
     fn tray_count(&self) -> usize
         ensures { result ≡ length (Self.Trays.trays self.now) };

@@ -1,7 +1,8 @@
 // What the hub asks of a message.
 ghost use Rattle.std.specs.Prelude.{◌≡◌, ℕ};
 
-// A message tells the pad that it came from and its kind, each a byte.
+// A message tells the pad that it came from and its kind, each a byte. A kind is a number here, and no enum, since each
+// type of messages has kinds of its own, which listings and other programs know by number.
 // The ghost members are functions of the message, so the same message always tells the same.
 pub trait Message: Copy {
     ghost pad: { Self → ℕ };

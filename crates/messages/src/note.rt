@@ -18,7 +18,7 @@ pub enum NoteKind {
 }
 
 impl NoteKind {
-    // The kind as a message tells it.
+    // The kind as a message tells it, by number.
     pub fn number(self) -> u8
         ensures { result ≡ kind_number self }
     {

@@ -42,6 +42,7 @@ pub enum Refusal {
 }
 
 impl Refusal {
+    // The number, for listings and other programs.
     pub fn number(self) -> u8
         ensures { result ≡ refusal_number self }
     {

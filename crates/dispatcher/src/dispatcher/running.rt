@@ -25,7 +25,8 @@ where
         }
     }
 
-    // Makes a call, and tells what happened if it is accepted.
+    // Makes a call, and tells what happened if it is accepted. Calls are values and not closures, since a history is made
+    // of them.
     fn attempt(&mut self, call: Call<B::Item>) -> Result<Event<B::Item>, Refusal>
         ensures { LawfulCall self.old self.new call (answered call (λ event. event) result) }
     {

@@ -42,7 +42,8 @@ pub fn list(heap: Global, file: &[u8], out: &mut [u8]) -> Result<usize, Unlisted
     Ok(list_file(heap, file, out)?)
 }
 
-// The same, into an output that is long enough.
+// The same, into an output that is long enough. That it is, is required of each function on the way, since the output is
+// the caller's own slice and no type of ours.
 fn list_file(heap: Global, file: &[u8], out: &mut [u8]) -> Result<usize, AllocError>
     requires { output_size ≤ length out.old }
     ensures { MatchResult result (λ n. (text : List ℕ) × IsListing file.now text × Holds text out.old out.new n) (λ _. HasHeader file.now × (out.new ≡ out.old)) }
