@@ -1,4 +1,7 @@
 // A call together with its answer.
+ghost use Rattle.std.specs.Prelude.{◌≡◌, MatchResult};
+ghost use Rattle.dispatcher.specs.declared.event.Event.TheVariants.{Refused};
+
 use crate::call::Call;
 use crate::entry::{Entry, Figures, Warning};
 use messages::refusal::Refusal;
@@ -20,4 +23,21 @@ pub enum Event<M> {
     Warned(u32, Option<Warning>),
     Begun,
     Asked(Figures),
+}
+
+impl<M: Copy> Event<M> {
+    // A call with its result: what `accepted` makes of the answer, or the call with why it was refused.
+    pub fn of<T, F: FnOnce(T) -> Event<M>>(
+        call: Call<M>,
+        res: Result<T, Refusal>,
+        accepted: F,
+    ) -> Event<M>
+        requires { F.IsAlwaysCallable accepted }
+        ensures { MatchResult res (λ answer. F.post accepted answer result) (λ refusal. result ≡ Refused call refusal) }
+    {
+        match res {
+            Ok(answer) => accepted(answer),
+            Err(refusal) => Event::Refused(call, refusal),
+        }
+    }
 }

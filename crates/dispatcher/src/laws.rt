@@ -1,4 +1,5 @@
-// The laws of whole runs of the machine, for messages of any type M.
+// The laws of whole runs of the machine, for messages of any type M. Each is the contract of a function, whose answer says
+// nothing.
 ghost use Rattle.dispatcher.specs.Theorems.{AccountsForAll, LeastLate, TellsWhatHappened, WarnsExactly};
 
 // The late count is that of the machine's own dispatches, and no service order has fewer late posts.

@@ -52,7 +52,7 @@ pub struct Note {
 }
 
 impl Note {
-    // What a cell holds that holds no entry yet.
+    // The default as a constant, for tables that are constants themselves.
     pub const BLANK: Note = Note {
         pad: 0,
         kind: NoteKind::PageKey,

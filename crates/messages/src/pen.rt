@@ -64,7 +64,7 @@ pub struct PenMessage {
 }
 
 impl PenMessage {
-    // What a cell holds that holds no entry yet.
+    // The default as a constant, for tables that are constants themselves.
     pub const BLANK: PenMessage = PenMessage {
         pad: 0,
         stage: Stage::Down,

@@ -1,4 +1,5 @@
-// The calls of a dispatcher.
+// The calls of a dispatcher. Each says in `lawful` what it answers and leaves, in the terms of the machine that the
+// dispatcher showed, and in `same`, whatever it showed, that a refused call leaves the very value it was.
 ghost use Rattle.std.specs.Prelude.{◌≡◌, ◌+◌, ◌%◌, ◌≤◌, Some, IfSome, option_map};
 ghost use Rattle.banks.specs.Trays.{Takes};
 ghost use Rattle.dispatcher.specs.Search.{FirstHeld};
@@ -18,7 +19,7 @@ use messages::message::Timed;
 use messages::refusal::Refusal;
 
 // The largest cycle and the largest receipt.
-const LIMIT: u32 = 4_000_000_000;
+pub const LIMIT: u32 = 4_000_000_000;
 
 // The most services that a warning may be told.
 const MOST_SERVICES: u32 = 1_000;
@@ -148,6 +149,7 @@ where
         requires services { services ≤ 1000 }
         ensures { Foresees self.now services result }
     {
+        // what is due so far is looked at in each cycle, so this is no sum over a chain
         let mut due: usize = 0;
         for ahead in 1..=ring.span() {
             let tray = ring.tray_of(self.cycle + ahead as u32);

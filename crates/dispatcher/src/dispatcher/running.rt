@@ -19,10 +19,7 @@ where
     pub fn perform(&mut self, call: Call<B::Item>) -> Event<B::Item>
         ensures { LawfulCall self.old self.new call result }
     {
-        match self.attempt(call) {
-            Ok(event) => event,
-            Err(refusal) => Event::Refused(call, refusal),
-        }
+        Event::of(call, self.attempt(call), |event| event)
     }
 
     // Makes a call, and tells what happened if it is accepted. Calls are values and not closures, since a history is made
