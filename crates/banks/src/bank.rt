@@ -53,7 +53,7 @@ pub trait Bank: Trays {
     fn total(&self) -> usize
         ensures { result ≡ held_in (Self.Trays.trays self.now) };
 
-    // Puts a cell at the end of a tray.
+    // Puts a cell at the end of a tray. Receipt and message come apart: the caller has no cell, and the bank makes it.
     fn put(&mut self, tray: usize, receipt: u32, message: Self::Item) -> Result<(), Refusal>
         ensures { Puts Self.Trays.trays Self.Trays.tray_limit Self.Trays.total_limit self.old self.new tray (record { receipt = receipt; message = message }) result };
 

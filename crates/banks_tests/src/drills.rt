@@ -5,24 +5,18 @@ use messages::refusal::Refusal;
 use std::process::Abort;
 use std::test::Fail;
 
-// Fills one tray until a put is refused, and takes all out again, in order. Answers how many went in.
+// Fills one tray until a put is refused, as the next is too, and takes all out again, in order. Answers how many went in.
 pub fn fill_and_empty<B: Bank<Item = Note>>(
     rt: &impl Abort,
     bank: &mut B,
     tray: usize,
 ) -> Result<usize, Fail> {
-    let mut placed = 0u32;
-    for receipt in 0u32..2_000 {
-        match bank.put(tray, receipt, Note::default()) {
-            Ok(()) => placed = receipt + 1,
-            Err(refusal) => {
-                assert_eq!(rt; refusal, Refusal::Full);
-                break;
-            }
-        }
-    }
+    let placed = (0u32..2_000)
+        .take_while(|&receipt| bank.put(tray, receipt, Note::default()).is_ok())
+        .count();
+    assert_eq!(rt; bank.put(tray, 2_000, Note::default()), Err(Refusal::Full));
     let held = bank.count(tray);
-    for receipt in 0..placed {
+    for receipt in (0u32..2_000).take(placed) {
         let cell = bank
             .take(tray)
             .ok_or_else(|| Fail::new("a cell is missing"))?;
@@ -68,7 +62,18 @@ pub fn no_such_tray<B: Bank<Item = Note>>(rt: &impl Abort, bank: &mut B, tray: u
     assert_eq!(rt; bank.total(), held);
 }
 
-// The number of trays and both limits.
-pub fn measures<B: Bank<Item = Note>>(bank: &B) -> (usize, usize, usize) {
-    (bank.tray_count(), bank.tray_limit(), bank.total_limit())
+// The number of trays of a bank and both its limits.
+#[derive(Clone, Copy, Debug, PartialEq, Eq)]
+pub struct Measured {
+    pub trays: usize,
+    pub tray_limit: usize,
+    pub total_limit: usize,
+}
+
+pub fn measures<B: Bank<Item = Note>>(bank: &B) -> Measured {
+    Measured {
+        trays: bank.tray_count(),
+        tray_limit: bank.tray_limit(),
+        total_limit: bank.total_limit(),
+    }
 }

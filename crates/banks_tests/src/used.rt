@@ -48,7 +48,7 @@ fn chain_trays_go_round_side_by_side(rt: HostRuntime) -> Result<(), Fail> {
     gone_round(&rt, &mut ChainBank::new(&mut [Cell::default(); 15], 5))
 }
 
-// Puts receipts 0, 1, 2 into tray 0 of a bank of two cells, and one into tray 1.
+// Puts receipts 0, 1, 2 into tray 0 of a bank whose tray 0 takes two, and one into tray 1.
 fn at_the_limits<B: Bank<Item = Note>>(bank: &mut B) -> [Result<(), Refusal>; 4] {
     [
         bank.put(0, 0, Note::default()),

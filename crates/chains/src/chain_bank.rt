@@ -7,9 +7,9 @@ use banks::cell::Cell;
 
 mod calls;
 
-// Any cell can serve any tray, so a tray may hold as many cells as all together. Each tray has
-// a chain of its cells, and one chain has those that hold no entry. Of a longer table the first 1,024 cells serve.
-#[derive(Drop)]
+// Any cell can serve any tray, so a tray may hold as many cells as all together. Each tray has a chain of its cells, and
+// one chain has those that hold no entry. Of a longer table the first 1,024 cells serve.
+#[derive(Debug, Drop)]
 pub struct ChainBank<'a, M> {
     cells: &'a mut [Cell<M>],
     links: Links,

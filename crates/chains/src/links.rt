@@ -15,7 +15,8 @@ fn successors() -> [u16; MAX_CELLS]
 
 // The chain of each tray, that of the free places, and for each of the `size` places the next one in its chain. The ghost
 // fields say what holds of every such value: each entry of a chain lies at a place of its own below `size`, and each chain
-// knows its last. The chains are arrays beside the lent table, since a bank uses no heap.
+// knows its last. The chains are arrays beside the lent table, since a bank uses no heap, and no vectors of fixed
+// capacity: how many places there are never changes once the bank is made, so nothing is ever pushed.
 #[derive(Clone, Copy, Debug, PartialEq, Eq)]
 pub struct Links {
     heads: [Link; MAX_TRAYS],

@@ -2,6 +2,8 @@
 use Rattle.std.specs.Prelude.{◌≡◌, ℕ, zero, suc, ◌+◌, ◌*◌, ◌%◌, ◌<◌, ◌≤◌, List, [], ◌∷◌, length, take, refl}
 use Rattle.std.proofs.Common.{ap, ◌∙◌, add-zero, zero-mul, suc-mul, mul-le-mul_right, mul-pos, arith, length-append, length-take}
 use Rattle.rows.specs.declared.head.Head.{Head}
+use Rattle.rows.specs.declared.row_bank.RowBank.{RowBank}
+use Rattle.rows.specs.RowBanks.{bank_limit, bank_total, bank_trays}
 use Rattle.rows.specs.Rings.{head_at, ring, rings, counted, row_trays}
 use Rattle.banks.specs.Tables.{cell_at}
 use Rattle.banks.specs.Trays.{tray_at, held_in}
@@ -69,3 +71,16 @@ row_some cells size n heads some l =
     let few : length (row_trays cells size n heads) ≤ n = rw (rings_length, length-take) (omega arith) in
     let pos = some (omega arith) in
     (pos, mul-pos (omega arith) pos)
+
+module _ {M : Type 0} (b : RowBank M) where
+  pub held_within : held_in (bank_trays b) ≤ bank_total b
+  held_within = row_within b.cells.now b.rows.limit b.rows.trays b.rows.heads b.rows.within
+
+  pub each_within : (k : ℕ) → length (tray_at (bank_trays b) k) ≤ bank_limit b
+  each_within = row_each_within b.cells.now b.rows.limit b.rows.trays b.rows.heads b.rows.within
+
+  pub number_few : length (bank_trays b) ≤ 128
+  number_few = row_few b.cells.now b.rows.limit b.rows.trays b.rows.heads b.rows.few
+
+  pub limits_some : 0 < length (bank_trays b) → (0 < bank_limit b) × (0 < bank_total b)
+  limits_some = row_some b.cells.now b.rows.limit b.rows.trays b.rows.heads b.rows.some

@@ -18,7 +18,7 @@ impl Head {
         ensures place { result ≡ (self.old.first + self.old.count) % size }
         ensures head { self.new ≡ one_more self.old }
     {
-        let place = (self.first as usize + self.count as usize) % size;
+        let place = (usize::from(self.first) + usize::from(self.count)) % size;
         self.count += 1;
         place
     }
@@ -31,8 +31,8 @@ impl Head {
         ensures place { result ≡ self.old.first % size }
         ensures head { self.new ≡ one_less size self.old }
     {
-        let place = self.first as usize % size;
-        self.first = ((self.first as usize + 1) % size) as u16;
+        let place = usize::from(self.first) % size;
+        self.first = ((usize::from(self.first) + 1) % size) as u16;
         self.count -= 1;
         place
     }

@@ -8,7 +8,7 @@ mod calls;
 
 // Of t trays over n serving cells, each has n / t cells, rounded down: tray k has those from k × (n / t) on. Of a longer
 // table the first 1,024 cells serve.
-#[derive(Drop)]
+#[derive(Debug, Drop)]
 pub struct RowBank<'a, M> {
     cells: &'a mut [Cell<M>],
     rows: Rows,

@@ -7,7 +7,8 @@ use banks::serving::{MAX_TRAYS, serving_cells};
 
 // The heads of the trays, of which the first `trays` are used, and how many cells a tray may hold. The ghost fields say
 // what holds of every such value: few trays, a limit that leaves room, and no count above it. The heads are an array
-// beside the lent table, since a bank uses no heap.
+// beside the lent table, since a bank uses no heap, and no vector of fixed capacity: how many are used never changes once
+// the bank is made, so nothing is ever pushed.
 #[derive(Clone, Copy, Debug, PartialEq, Eq)]
 pub struct Rows {
     heads: [Head; MAX_TRAYS],
@@ -26,7 +27,7 @@ fn total_of(heads: &[Head]) -> usize
     requires { length heads.now ≤ 128 }
     ensures { result ≡ sum_by (λ head. head.count) heads.now }
 {
-    heads.iter().map(|head| head.count as usize).sum()
+    heads.iter().map(|head| usize::from(head.count)).sum()
 }
 
 impl Rows {
@@ -65,7 +66,7 @@ impl Rows {
         ensures { result ≡ (head_at (take self.now.trays self.now.heads) tray).count }
     {
         let heads = &self.heads[..self.trays];
-        heads.get(tray).map_or(0, |head| head.count as usize)
+        heads.get(tray).map_or(0, |head| usize::from(head.count))
     }
 
     pub(crate) fn total(&self) -> usize

@@ -1,9 +1,10 @@
-// Making a row bank, and its calls.
+// Making a row bank, and its calls. `lent` stands on each that makes or changes a bank, so that the caller knows that its
+// own table comes back: an invariant sees one bank, and not the one before the call.
 ghost use Rattle.std.specs.Prelude.{◌≡◌, ℕ, ◌*◌, ◌<◌, ◌≤◌, [], length, replicate, Ok};
 ghost use Rattle.banks.specs.Trays.{Puts, Takes};
 ghost use Rattle.rows.specs.Rings.{no_head, row_limit, row_number};
 ghost use Rattle.rows.specs.RowBanks.{Fills, Moves, bank_cells, bank_limit, bank_total, bank_trays};
-ghost use Rattle.rows.specs.RowLaws.{row_some, row_few, row_each_within, row_within};
+ghost use Rattle.rows.specs.RowLaws.{limits_some, number_few, each_within, held_within};
 
 use super::RowBank;
 use crate::rows::Rows;
@@ -37,13 +38,13 @@ impl<'a, M: Message> Trays for RowBank<'a, M> {
 
     ghost total_limit = { bank_total };
 
-    ghost limits_leave_room = { λ b. row_some b.cells.now b.rows.limit b.rows.trays b.rows.heads b.rows.some };
+    ghost limits_leave_room = { limits_some };
 
-    ghost few_trays = { λ b. row_few b.cells.now b.rows.limit b.rows.trays b.rows.heads b.rows.few };
+    ghost few_trays = { number_few };
 
-    ghost each_tray_within_its_limit = { λ b. row_each_within b.cells.now b.rows.limit b.rows.trays b.rows.heads b.rows.within };
+    ghost each_tray_within_its_limit = { each_within };
 
-    ghost all_within_the_total = { λ b. row_within b.cells.now b.rows.limit b.rows.trays b.rows.heads b.rows.within };
+    ghost all_within_the_total = { held_within };
 }
 
 impl<'a, M: Message> Bank for RowBank<'a, M> {
