@@ -22,7 +22,8 @@ fn note(cycle: u32, interval: u8) -> Note
     }
 }
 
-// Makes the call that the byte stands for, and tells what it answered as a number.
+// Makes the call that the byte stands for, and tells what it answered as a number. Calls are bytes here, and no enum,
+// since programs in other languages make the loads.
 fn answer<B: Bank<Item = Note>>(dispatcher: &mut Dispatcher<B>, byte: u8) -> Result<u64, Refusal>
     ensures { AnswersByte (view dispatcher.old) (view dispatcher.new) byte (number_told result) }
 {

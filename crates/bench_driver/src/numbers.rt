@@ -24,16 +24,16 @@ pub(crate) fn mix(sum: u64, number: u64) -> u64
 pub(crate) fn halves(upper: u32, lower: u64) -> u64
     ensures { result ≡ halved upper lower }
 {
-    ((upper as u64) << 32).wrapping_add(lower)
+    (u64::from(upper) << 32).wrapping_add(lower)
 }
 
-// An entry: its deadline in the upper half and its receipt in the lower, and its payload added to both.
+// An entry: its deadline in the upper half, and in the lower its receipt, to which its payload is added.
 pub(crate) fn entry_number(entry: Entry<Note>) -> u64
     ensures { result ≡ number_of_entry entry }
 {
     halves(
         entry.deadline,
-        entry.receipt as u64 + entry.message.payload as u64,
+        u64::from(entry.receipt) + u64::from(entry.message.payload),
     )
 }
 
@@ -41,5 +41,5 @@ pub(crate) fn entry_number(entry: Entry<Note>) -> u64
 pub(crate) fn told(answer: Result<u64, Refusal>) -> u64
     ensures { result ≡ number_told answer }
 {
-    answer.unwrap_or_else(|refusal| refusal.number() as u64)
+    answer.unwrap_or_else(|refusal| u64::from(refusal.number()))
 }

@@ -1,5 +1,5 @@
 // The static library of bench_driver, which callers in other languages link. A slice crosses as the address of its first
-// byte and its length.
+// byte and its length. Each bank has a function of its own, since a C name has no type parameter.
 #![tactic(auto)]
 
 ghost use Rattle.std.specs.Prelude.{◌≡◌};

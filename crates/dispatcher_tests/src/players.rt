@@ -8,7 +8,7 @@ use messages::note::{Note, NoteKind};
 use std::process::Abort;
 use std::test::Fail;
 
-// A tilt note of pad 7.
+// A tilt note of pad 7. The tests of the phases make their own: a crate for two small functions would be no plainer.
 pub fn note(interval: u8) -> Note {
     Note {
         pad: 7,

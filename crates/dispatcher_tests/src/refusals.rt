@@ -1,4 +1,4 @@
-// Every refusal that a dispatcher can give.
+// Every refusal that a dispatcher can give, but that of a full tray, which is among the lessons.
 use crate::players::{entry, note, play};
 use banks::bank::Bank;
 use banks::cell::Cell;

@@ -12,6 +12,7 @@ pub enum Held {
     InOutput(Refused<Output>),
 }
 
+// Both `From` are by hand, since a clause names what `?` makes, and a derive would not say it.
 impl From<Refused<Report>> for Held {
     ghost from_gives = { λ refused held. held ≡ InReport refused };
 

@@ -45,7 +45,8 @@ impl End for NextCycle {
     }
 }
 
-// A tilt note of pad 7.
+// A tilt note of pad 7. The tests of the dispatcher make their own: a crate for two small functions would be
+// no plainer.
 pub fn note(interval: u8) -> Note {
     Note {
         pad: 7,

@@ -77,7 +77,8 @@ impl Header {
     }
 }
 
-// The mark "EVQ", the version 1, the type, the trays and the bank.
+// The mark "EVQ", the version 1, the type, the trays and the bank. A function, since no constant can
+// call `ByteRange::only`.
 fn header_ranges() -> [ByteRange; 8]
     ensures { result ≡ ranges_of_header }
 {

@@ -19,7 +19,7 @@ pub struct Record<'a, M> {
 }
 
 // A steps file that posts messages of the type M, read as far as `position`.
-#[derive(Drop)]
+#[derive(Debug, Drop)]
 pub struct Records<'a, M> {
     file: &'a [u8],
     header: Header,

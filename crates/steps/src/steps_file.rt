@@ -16,7 +16,7 @@ use messages::refusal::Refusal;
 pub const LONGEST: usize = 30_008;
 
 // The records of a file, by the type of message that its header names.
-#[derive(Drop)]
+#[derive(Debug, Drop)]
 pub enum StepsFile<'a> {
     Pen(Records<'a, PenMessage>),
     Note(Records<'a, Note>),
@@ -66,6 +66,7 @@ fn sum_up<M: Posted>(mut records: Records<M>) -> Result<Summary, Fault>
     ensures { HasRead M.Posted.format records.entry [] → SumsUp M.Posted.format records.entry result }
 {
     let header = records.header();
+    // Counted by hand, since the reader is no iterator: see `Records::next`.
     let mut count = 0;
     while let Some(_) = records.next()? {
         count += 1;

@@ -1,5 +1,6 @@
 // Headers: each byte just outside what it may be, and each value that it may have.
-use crate::outcomes::{NOTE_FILE, in_header, lawful, with_byte};
+use crate::outcomes::{NOTE_FILE, faulty, lawful, with_byte};
+use messages::refusal::Refusal;
 use steps::header::{BankKind, Header, MessageType};
 use steps::steps_file::check;
 
@@ -24,7 +25,7 @@ fn a_wrong_byte_is_the_fault(rt: HostRuntime) {
     ];
     for (place, byte) in wrong {
         let file = with_byte(NOTE_FILE, place, byte);
-        assert_eq!(rt; check(&file), in_header(place));
+        assert_eq!(rt; check(&file), faulty(Refusal::BadHeader, place));
     }
 }
 
@@ -33,9 +34,9 @@ fn the_first_of_two_wrong_bytes_is_the_fault(rt: HostRuntime) {
     let mut file = NOTE_FILE;
     file[4] = 9;
     file[2] = 9;
-    assert_eq!(rt; check(&file), in_header(2));
+    assert_eq!(rt; check(&file), faulty(Refusal::BadHeader, 2));
     file[2] = 0x51;
-    assert_eq!(rt; check(&file), in_header(4));
+    assert_eq!(rt; check(&file), faulty(Refusal::BadHeader, 4));
 }
 
 #[test]

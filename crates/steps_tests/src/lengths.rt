@@ -1,14 +1,15 @@
 // Files by their length: cut at every byte, and as long as a file can be.
-use crate::outcomes::{NOTE_FILE, in_header, in_record, lawful};
+use crate::outcomes::{NOTE_FILE, faulty, lawful};
+use messages::refusal::Refusal;
 use steps::steps_file::check;
 
 #[test]
 fn a_file_that_breaks_off_is_at_fault_at_its_length(rt: HostRuntime) {
     for length in 0usize..18 {
         let expected = match length {
-            0..8 => in_header(length),
+            0..8 => faulty(Refusal::BadHeader, length),
             8 => lawful(4, 0),
-            _ => in_record(length),
+            _ => faulty(Refusal::BadRecord, length),
         };
         assert_eq!(rt; check(&NOTE_FILE[..length]), expected);
     }
@@ -19,9 +20,9 @@ fn a_file_that_breaks_off_is_at_fault_at_its_length(rt: HostRuntime) {
 fn a_wrong_byte_before_the_cut_is_the_fault(rt: HostRuntime) {
     let mut file = NOTE_FILE;
     file[11] = 14;
-    assert_eq!(rt; check(&file[0..12]), in_record(11));
-    assert_eq!(rt; check(&file[0..17]), in_record(11));
-    assert_eq!(rt; check(&file[0..11]), in_record(11));
+    assert_eq!(rt; check(&file[0..12]), faulty(Refusal::BadRecord, 11));
+    assert_eq!(rt; check(&file[0..17]), faulty(Refusal::BadRecord, 11));
+    assert_eq!(rt; check(&file[0..11]), faulty(Refusal::BadRecord, 11));
 }
 
 // A header, and a dispatch at each record's place. Tests take parts of it by `0..n`, since `..n` of an array that a call
@@ -39,20 +40,20 @@ fn dispatches() -> [u8; 30_009] {
 fn three_thousand_records_are_lawful_and_no_byte_more(rt: HostRuntime) {
     let file = dispatches();
     assert_eq!(rt; check(&file[0..30_008]), lawful(4, 3_000));
-    assert_eq!(rt; check(&file), in_header(30_008));
+    assert_eq!(rt; check(&file), faulty(Refusal::BadHeader, 30_008));
 }
 
 #[test]
 fn the_last_record_may_be_missing_but_not_cut(rt: HostRuntime) {
     let file = dispatches();
     assert_eq!(rt; check(&file[0..29_998]), lawful(4, 2_999));
-    assert_eq!(rt; check(&file[0..30_007]), in_record(30_007));
+    assert_eq!(rt; check(&file[0..30_007]), faulty(Refusal::BadRecord, 30_007));
 }
 
 #[test]
 fn a_file_that_is_too_long_is_not_looked_at(rt: HostRuntime) {
     let mut file = dispatches();
     file[0] = 0;
-    assert_eq!(rt; check(&file), in_header(30_008));
-    assert_eq!(rt; check(&file[0..30_008]), in_header(0));
+    assert_eq!(rt; check(&file), faulty(Refusal::BadHeader, 30_008));
+    assert_eq!(rt; check(&file[0..30_008]), faulty(Refusal::BadHeader, 0));
 }

@@ -1,7 +1,8 @@
-// What the tests expect of a whole file.
+// What the tests expect of a whole file or of a record.
 use messages::refusal::Refusal;
-use steps::fault::Fault;
+use steps::fault::{Fault, Unlawful};
 use steps::header::{BankKind, Header, MessageType};
+use steps::step::Step;
 use steps::steps_file::Summary;
 
 // A lawful file of one record: a tilt note, over a row bank of four trays.
@@ -9,18 +10,14 @@ pub const NOTE_FILE: [u8; 18] = [
     0x45, 0x56, 0x51, 0, 1, 2, 4, 1, 1, 7, 2, 13, 0xde, 0xad, 0xbe, 0xef, 0, 0,
 ];
 
-pub fn in_header(offset: usize) -> Result<Summary, Fault> {
-    Err(Fault {
-        refusal: Refusal::BadHeader,
-        offset,
-    })
+// A file whose first unlawful byte is at the offset.
+pub fn faulty(refusal: Refusal, offset: usize) -> Result<Summary, Fault> {
+    Err(Fault { refusal, offset })
 }
 
-pub fn in_record(offset: usize) -> Result<Summary, Fault> {
-    Err(Fault {
-        refusal: Refusal::BadRecord,
-        offset,
-    })
+// Bytes of which only so many of the first are lawful for a record.
+pub fn unlawful_at<M>(lawful_up_to: usize) -> Result<Step<M>, Unlawful> {
+    Err(Unlawful { lawful_up_to })
 }
 
 // The bytes with another at one place.

@@ -1,8 +1,8 @@
 // Each step, stage and kind, with the values that its bytes say.
+use crate::outcomes::unlawful_at;
 use messages::note::{Note, NoteKind};
 use messages::pen::{PenMessage, Stage};
 use std::test::Fail;
-use steps::fault::Unlawful;
 use steps::records::Record;
 use steps::step::Step;
 use steps::steps_file::StepsFile;
@@ -26,17 +26,11 @@ fn pen_posts(rt: HostRuntime) {
 fn unknown_stages_and_kinds(rt: HostRuntime) {
     for stage in [0u8, 4, 255] {
         let record = [1u8, 7, stage, 0, 0, 0, 0, 0, 0, 0];
-        assert_eq!(rt;
-            Step::<PenMessage>::read(&record),
-            Err(Unlawful { lawful_up_to: 2 })
-        );
+        assert_eq!(rt; Step::<PenMessage>::read(&record), unlawful_at(2));
     }
     for kind in [0u8, 10, 14, 255] {
         let record = [1u8, 7, 0, kind, 0, 0, 0, 0, 0, 0];
-        assert_eq!(rt;
-            Step::<Note>::read(&record),
-            Err(Unlawful { lawful_up_to: 3 })
-        );
+        assert_eq!(rt; Step::<Note>::read(&record), unlawful_at(3));
     }
 }
 
@@ -84,12 +78,9 @@ fn steps_without_a_message(rt: HostRuntime) {
 fn unknown_steps(rt: HostRuntime) {
     for number in [0u8, 6, 128, 255] {
         let record = [number, 0, 0, 0, 0, 0, 0, 0, 0, 0];
-        assert_eq!(rt;
-            Step::<Note>::read(&record),
-            Err(Unlawful { lawful_up_to: 0 })
-        );
+        assert_eq!(rt; Step::<Note>::read(&record), unlawful_at(0));
     }
-    assert_eq!(rt; Step::<Note>::read(&[]), Err(Unlawful { lawful_up_to: 0 }));
+    assert_eq!(rt; Step::<Note>::read(&[]), unlawful_at(0));
 }
 
 #[test]

@@ -1,16 +1,8 @@
 // Bytes that the format does not mention have to be 0.
-use crate::outcomes::with_byte;
+use crate::outcomes::{unlawful_at, with_byte};
 use messages::note::Note;
 use messages::pen::PenMessage;
-use steps::fault::Unlawful;
 use steps::step::Step;
-
-// What a record with 1 at a place that has to be 0 is refused with.
-fn unlawful_at<M>(place: usize) -> Result<Step<M>, Unlawful> {
-    Err(Unlawful {
-        lawful_up_to: place,
-    })
-}
 
 #[test]
 fn of_steps_without_a_message(rt: HostRuntime) {

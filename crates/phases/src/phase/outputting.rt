@@ -56,7 +56,7 @@ impl Output {
     }
 
     // Ends the driving, as where there is no next cycle to turn to, and answers its last cycle. A trait for this and for
-    // the `finish` of a report phase would be no plainer.
+    // the `finish` of a report phase would be no plainer: it has one method, and each caller would have to import it.
     pub fn finish(self) -> u32
         ensures { result ≡ self.cycle }
     {

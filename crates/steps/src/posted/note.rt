@@ -29,7 +29,8 @@ impl Posted for Note {
     }
 }
 
-// Step 1, the pad, the interval, the kind, and a payload of four bytes.
+// Step 1, the pad, the interval, the kind, and a payload of four bytes. A function, since no constant can
+// call `ByteRange::only`.
 fn post_ranges() -> [ByteRange; 10]
     ensures { result ≡ note_ranges }
 {

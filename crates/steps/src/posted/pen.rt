@@ -30,7 +30,8 @@ impl Posted for PenMessage {
     }
 }
 
-// Step 1, the pad, the stage, and x, y and force of two bytes each.
+// Step 1, the pad, the stage, and x, y and force of two bytes each. A function, since no constant can
+// call `ByteRange::only`.
 fn post_ranges() -> [ByteRange; 10]
     ensures { result ≡ pen_ranges }
 {
