@@ -23,8 +23,7 @@ fn lists(
     expected: &[u8],
 ) -> Result<(), Fail> {
     let mut out = vec![in rt.alloc(); OLD; size]?;
-    let length =
-        list(rt.alloc(), file, out.as_mut_slice()).map_err(|_| Fail::new("no listing"))?;
+    let length = list(rt.alloc(), file, out.as_mut_slice()).map_err(|_| Fail::new("no listing"))?;
     assert_eq!(rt; length, expected.len());
     let (listing, rest) = out.as_slice().split_at(length);
     assert_eq!(rt; listing, expected);
