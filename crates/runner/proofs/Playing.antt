@@ -1,5 +1,5 @@
 -- A listing over a bank is the listing of the file whose calls were made.
-use Rattle.std.proofs.Common.{◌≡◌, ℕ, List, ◌++◌, drop, Ok, Err, Option, Result, sym, ap, ◌∙◌, subst, Bor, MatchResult}
+use Rattle.std.proofs.Common.{◌≡◌, ℕ, List, ◌++◌, drop, Ok, Err, Option, Result, sym, ap, ◌∙◌, subst, Bor, IfOk}
 use Rattle.std.proofs.lemmas.List.{take-append-drop}
 use Rattle.dispatcher.specs.declared.call.Call.{Call}
 use Rattle.dispatcher.specs.Machine.{Terms}
@@ -9,10 +9,9 @@ use Rattle.steps.specs.declared.records.Records.{Records}
 use Rattle.steps.specs.Opening.{Starts}
 use Rattle.runner.specs.Banks.{bank_terms}
 use Rattle.runner.specs.Files.{CallsOf, HasHeader}
-use Rattle.runner.specs.Listings.{IsListing, ListsSteps, Messages, listing_over}
-use Rattle.runner.specs.Output.{Holds}
+use Rattle.runner.specs.Listings.{ListsSteps, Messages, listing_over}
 
-module _ {M : Type 0} (t : Messages M) (file : List ℕ) (h : Header) (b : Terms M) (terms : b ≡ bank_terms t.interval h) (calls made : List (Call M)) (fault : Option Fault) (same : made ≡ calls) (of : CallsOf t.format file h calls fault) (before after : List ℕ) where
+module _ {M : Type 0} (t : Messages M) (file : List ℕ) (h : Header) (b : Terms M) (terms : b ≡ bank_terms t.interval h) (calls made : List (Call M)) (fault : Option Fault) (same : made ≡ calls) (of : CallsOf t.format file h calls fault) where
   lists : ListsSteps t file (listing_over t.pad t.kind b made fault)
   lists =
       record {
@@ -24,24 +23,21 @@ module _ {M : Type 0} (t : Messages M) (file : List ℕ) (h : Header) (b : Terms
             ∙ ap (λ cs. listing_over t.pad t.kind (bank_terms t.interval h) cs fault) (same ∙ of.2);
       }
 
-  pub played : {E : Type 0} (r : Result ℕ E) → MatchResult r (Holds (listing_over t.pad t.kind b made fault) before after) (λ _. after ≡ before) → MatchResult r (λ n. (text : List ℕ) × ListsSteps t file text × Holds text before after n) (λ _. after ≡ before)
-  played (Ok n) k = (listing_over t.pad t.kind b made fault, lists, k)
-  played (Err e) k = k
+  -- and so is a text of the same bytes
+  pub played : {S E : Type 0} (bytes : S → List ℕ) (r : Result S E) → IfOk r (λ s. bytes s ≡ listing_over t.pad t.kind b made fault) → IfOk r (λ s. ListsSteps t file (bytes s))
+  played bytes (Ok s) e = subst (ListsSteps t file) (sym e) lists
+  played bytes (Err e) k = tt
 
--- what a file that was opened is listed as is its listing, and it has a header
-module _ {M : Type 0} (t : Messages M) (file : Bor (List ℕ)) (r : Records M) (starts : Starts t.format file r) (wrap : (text : List ℕ) → ListsSteps t file.now text → IsListing file.now text) (before after : List ℕ) where
-  has_header : HasHeader r.file.now
+-- a file that was opened has a header
+module _ {M : Type 0} (t : Messages M) (file : Bor (List ℕ)) (r : Records M) (starts : Starts t.format file r) where
+  pub has_header : HasHeader file.now
   has_header =
       let h = starts.1 in
       let bytes = r.file.now in
-      record {
+      subst (λ x. HasHeader x.now) starts.0
+      (record {
         header = r.header;
         trays = h.trays;
         begun = (drop r.position bytes, sym (take-append-drop r.position bytes) ∙ ap (λ x. x ++ drop r.position bytes) h.written);
         short = h.short;
-      }
-
-  pub opened : {E : Type 0} (x : Result ℕ E) → MatchResult x (λ n. (text : List ℕ) × ListsSteps t r.file.now text × Holds text before after n) (λ _. after ≡ before) → MatchResult x (λ n. (text : List ℕ) × IsListing file.now text × Holds text before after n) (λ _. HasHeader file.now × (after ≡ before))
-  opened (Ok n) k =
-      (k.0, wrap k.0 (subst (λ x. ListsSteps t x.now k.0) starts.0 k.1), k.2)
-  opened (Err e) k = (subst (λ x. HasHeader x.now) starts.0 has_header, k)
+      })

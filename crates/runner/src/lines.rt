@@ -86,13 +86,14 @@ pub(crate) fn write_fault(text: &mut String, fault: Option<Fault>) -> Result<(),
     ensures wrote { OnOk result (string_bytes text.new ≡ string_bytes text.old ++ lines.fault_line fault) }
     ensures short { length (lines.fault_line fault) ≤ 11 }
 {
-    match fault {
-        Some(fault) => text.push_str(fault_line(fault).as_str()),
-        None => Ok(()),
-    }
+    let Some(fault) = fault else {
+        return Ok(());
+    };
+    text.push_str(fault_line(fault).as_str())
 }
 
-// The line of a fault. It wants no memory, since the listing of a file with no lawful header wants none.
+// The line of a fault. It wants no memory, since the listing of a file with no lawful header wants none. It is not written
+// by `writeln!` of the fault, since that does not promise to go well where the line has room.
 pub(crate) fn fault_line(fault: Fault) -> ArrayString<LONGEST_FAULT>
     ensures { result.bytes ≡ lines.fault_line (Some fault) }
 {

@@ -11,7 +11,7 @@ mod making;
 pub use making::{OUTPUT, list};
 
 // Why there is no listing: the output is too short, which is the refusal 16, or there was no memory.
-#[derive(Debug, Drop, Error)]
+#[derive(Clone, Copy, Debug, PartialEq, Eq, Error)]
 pub enum Unlisted {
     #[error("{0}")]
     Refused(Refusal),

@@ -23,9 +23,7 @@ fn lists(
     expected: &[u8],
 ) -> Result<(), Fail> {
     let mut out = vec![in rt.alloc(); OLD; size]?;
-    let Ok(length) = list(rt.alloc(), file, out.as_mut_slice()) else {
-        return Err(Fail::new("no listing"));
-    };
+    let length = list(rt.alloc(), file, out.as_mut_slice()).map_err(|_| Fail::new("no listing"))?;
     assert_eq!(rt; length, expected.len());
     let (listing, rest) = out.as_slice().split_at(length);
     assert_eq!(rt; listing, expected);
@@ -66,10 +64,8 @@ fn a_fault_in_the_header_is_all(rt: HostRuntime) -> Result<(), Fail> {
 #[test]
 fn an_output_of_65535_bytes_is_refused_and_left(rt: HostRuntime) -> Result<(), Fail> {
     let mut out = vec![in rt.alloc(); OLD; OUTPUT - 1]?;
-    match list(rt.alloc(), &LESSON, out.as_mut_slice()) {
-        Err(Unlisted::Refused(refusal)) => assert_eq!(rt; refusal, Refusal::OutputTooShort),
-        _ => return Err(Fail::new("not refused")),
-    }
+    let answer = list(rt.alloc(), &LESSON, out.as_mut_slice());
+    assert_eq!(rt; answer, Err(Unlisted::Refused(Refusal::OutputTooShort)));
     assert!(rt; out.as_slice().iter().all(|byte| *byte == OLD));
     Ok(())
 }

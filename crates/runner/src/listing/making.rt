@@ -1,5 +1,5 @@
 // Making the listing of a steps file.
-ghost use Rattle.std.specs.Prelude.{◌≡◌, ℕ, ◌≤◌, List, [], length, MatchResult};
+ghost use Rattle.std.specs.Prelude.{◌≡◌, ℕ, ◌≤◌, List, [], length, IfOk, MatchResult, string_bytes};
 ghost use Rattle.dispatcher.specs.Steps.{terms};
 ghost use Rattle.runner.specs.Answers.{Lists, output_size};
 ghost use Rattle.runner.specs.Files.{HasHeader};
@@ -42,72 +42,58 @@ pub fn list(heap: Global, file: &[u8], out: &mut [u8]) -> Result<usize, Unlisted
     Ok(list_file(heap, file, out)?)
 }
 
-// The same, into an output that is long enough. That it is, is required of each function on the way, since the output is
-// the caller's own slice and no type of ours.
+// The same, into an output that is long enough. It is written only once the whole text is there.
 fn list_file(heap: Global, file: &[u8], out: &mut [u8]) -> Result<usize, AllocError>
     requires { output_size ≤ length out.old }
     ensures { MatchResult result (λ n. (text : List ℕ) × IsListing file.now text × Holds text out.old out.new n) (λ _. HasHeader file.now × (out.new ≡ out.old)) }
 {
-    match StepsFile::open(file) {
-        Ok(StepsFile::Pen(records)) => play(heap, records, &mut [Cell::default(); CELLS], out),
-        Ok(StepsFile::Note(records)) => play(heap, records, &mut [Cell::default(); CELLS], out),
-        Err(fault) => Ok(fill(out, fault_line(fault).as_str())),
-    }
+    let text = match StepsFile::open(file) {
+        Ok(StepsFile::Pen(records)) => play(heap, records, &mut [Cell::default(); CELLS])?,
+        Ok(StepsFile::Note(records)) => play(heap, records, &mut [Cell::default(); CELLS])?,
+        Err(fault) => return Ok(fill(out, fault_line(fault).as_str())),
+    };
+    Ok(fill(out, text.as_str()))
 }
 
-// Runs the records over the bank that the header asks for.
+// Runs the records over the bank that the header asks for; answers the listing.
 fn play<M: Posted>(
     heap: Global,
     records: Records<M>,
     cells: &mut [Cell<M>],
-    out: &mut [u8],
-) -> Result<usize, AllocError>
+) -> Result<String, AllocError>
     requires begun { HasRead M.Posted.format records [] }
     requires cells { length cells.old ≡ 256 }
-    requires room { output_size ≤ length out.old }
-    ensures { MatchResult result (λ n. (text : List ℕ) × ListsSteps (record { format = M.Posted.format; pad = M.Message.pad; kind = M.Message.kind; interval = M.Timed.interval }) records.entry.file.now text × Holds text out.old out.new n) (λ _. out.new ≡ out.old) }
+    ensures listing { IfOk result (λ text. ListsSteps (record { format = M.Posted.format; pad = M.Message.pad; kind = M.Message.kind; interval = M.Timed.interval }) records.entry.file.now (string_bytes text)) }
+    ensures short { IfOk result (λ text. length (string_bytes text) ≤ output_size) }
 {
     let header = records.header();
     let trays = usize::from(header.trays);
     let (calls, fault) = read_calls(heap, records)?;
     match header.bank {
-        BankKind::Row => list_run(
-            heap,
-            RowBank::new(cells, trays),
-            calls.as_slice(),
-            fault,
-            out,
-        ),
-        BankKind::Chain => list_run(
-            heap,
-            ChainBank::new(cells, trays),
-            calls.as_slice(),
-            fault,
-            out,
-        ),
+        BankKind::Row => list_run(heap, RowBank::new(cells, trays), calls.as_slice(), fault),
+        BankKind::Chain => list_run(heap, ChainBank::new(cells, trays), calls.as_slice(), fault),
     }
 }
 
-// Makes the calls, and lists their events and the fault. The output is written only once the whole text is there.
+// Makes the calls, and lists their events and the fault.
 fn list_run<B: Bank + Drop>(
     heap: Global,
     bank: B,
     calls: &[Call<B::Item>],
     fault: Option<Fault>,
-    out: &mut [u8],
-) -> Result<usize, AllocError>
+) -> Result<String, AllocError>
 where
     B::Item: Timed,
     requires few { FewCalls calls.now }
     requires brief { BriefFault fault }
-    requires room { output_size ≤ length out.old }
-    ensures { MatchResult result (Holds (listing_over B.Item.Message.pad B.Item.Message.kind (terms B.Trays B.Item.Timed.interval bank) calls.now fault) out.old out.new) (λ _. out.new ≡ out.old) }
+    ensures listing { IfOk result (λ text. string_bytes text ≡ listing_over B.Item.Message.pad B.Item.Message.kind (terms B.Trays B.Item.Timed.interval bank) calls.now fault) }
+    ensures short { IfOk result (λ text. length (string_bytes text) ≤ output_size) }
 {
     let (_dispatcher, events) = run(heap, bank, calls)?;
     let mut text = String::new(heap);
     write_events(&mut text, events.as_slice())?;
     write_fault(&mut text, fault)?;
-    Ok(fill(out, text.as_str()))
+    Ok(text)
 }
 
 // Writes a text to the start of the output, and answers its length.
