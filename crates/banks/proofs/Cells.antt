@@ -1,8 +1,6 @@
 -- Cells of a table after one is written, lists of one element, and a take from an empty tray.
-use Rattle.std.proofs.Common.{◌≡◌, ℕ, zero, suc, ◌<◌, List, [], ◌∷◌, length, get_or, set, replicate, None, sym, refl, ap, ◌∙◌, arith}
-use Rattle.std.proofs.lemmas.List.{set-get_or}
+use Rattle.std.proofs.Common.{◌≡◌, ℕ, zero, suc, ◌<◌, List, [], ◌∷◌, length, get_or, set, replicate, sym, refl, ap, arith}
 use Rattle.banks.specs.Tables.{cell_at}
-use Rattle.banks.specs.Trays.{first_of, tray_at, without_first}
 
 pub cell_other : {C : Type 0} (cells : List C) (i j : ℕ) (c : C) → (i ≡ j → ⊥) → cell_at (set cells i c) j ≡ cell_at cells j
 cell_other [] i j c ne = refl
@@ -31,9 +29,3 @@ pub get_or_replicate_self : {C : Type 0} (n k : ℕ) (d : C) → get_or (replica
 get_or_replicate_self zero k d = refl
 get_or_replicate_self (suc n) zero d = refl
 get_or_replicate_self (suc n) (suc k) d = get_or_replicate_self n k d
-
--- what a take finds and leaves where the tray is empty
-pub take_none : {C : Type 0} (ts : List (List C)) (k : ℕ) → tray_at ts k ≡ [] → (None ≡ first_of (tray_at ts k)) × (ts ≡ set ts k (without_first (tray_at ts k)))
-take_none ts k e =
-    let same : without_first (tray_at ts k) ≡ tray_at ts k = ap without_first e ∙ sym e in
-    (sym (ap first_of e), sym (ap (λ t. set ts k t) same ∙ set-get_or ts k []))

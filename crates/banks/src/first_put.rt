@@ -5,7 +5,7 @@ ghost use Rattle.banks.specs.Trays.{Puts, held_in};
 use crate::bank::Bank;
 use messages::refusal::Refusal;
 
-// A put as any other. Into an existing tray of an empty bank it is never refused, whatever the bank.
+// A put as any other, told as the trait tells it. Into an existing tray of an empty bank it is never refused, whatever the bank.
 pub fn first_put<B: Bank>(
     bank: &mut B,
     tray: usize,

@@ -33,7 +33,7 @@ pub struct Links {
 }
 
 impl Links {
-    // Every place is free.
+    // Every place is free. A size is asked to be small here and in the rows, each for numbers of 16 bits of its own.
     pub(crate) fn new(size: usize) -> Links
         requires { size ≤ 1024 }
         ensures size { result.size ≡ size }

@@ -51,16 +51,6 @@ pub struct Note {
     pub payload: u32,
 }
 
-impl Note {
-    // The default as a constant, for tables that are constants themselves.
-    pub const BLANK: Note = Note {
-        pad: 0,
-        kind: NoteKind::PageKey,
-        interval: 0,
-        payload: 0,
-    };
-}
-
 impl Message for Note {
     ghost pad = { λ n. n.pad };
 

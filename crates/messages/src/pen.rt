@@ -18,7 +18,7 @@ pub enum Stage {
 }
 
 impl Stage {
-    // The kind of a pen message in this stage.
+    // The kind of a pen message in this stage, by number, as a message tells it.
     pub fn kind(self) -> u8
         ensures { result ≡ (told_by self).kind }
     {
@@ -61,17 +61,6 @@ pub struct PenMessage {
     pub x: u16,
     pub y: u16,
     pub force: u16,
-}
-
-impl PenMessage {
-    // The default as a constant, for tables that are constants themselves.
-    pub const BLANK: PenMessage = PenMessage {
-        pad: 0,
-        stage: Stage::Down,
-        x: 0,
-        y: 0,
-        force: 0,
-    };
 }
 
 impl Message for PenMessage {

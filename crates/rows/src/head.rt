@@ -11,6 +11,7 @@ pub struct Head {
 impl Head {
     ghost use Rattle.rows.specs.Rings.{one_less, one_more};
 
+    // That a ring has at most 1,024 places is required, since a head does not know its ring.
     // One cell more at the end of a ring of `size` places that has room. Answers its place in the ring.
     pub(crate) fn push(&mut self, size: usize) -> usize
         requires has_room { self.old.count < size }

@@ -34,7 +34,8 @@ pub(crate) fn read_calls<M: Posted>(
     }
 }
 
-// The call that a step stands for. Both types are of other crates, so it cannot be a `From`.
+// The call that a step stands for. Both types are of other crates, so it cannot be a `From`; and a step is what a file
+// says, so it is told apart by `match`.
 fn call_of<M: Copy>(step: Step<M>) -> Call<M>
     ensures { result ≡ call_for step }
 {

@@ -1,6 +1,6 @@
 // The line of each event, and that of a fault. Each function says what it wrote and how long that is; the lines differ, so
 // there is no one fact to share. What a message tells is two functions in the definitions, which name the types of
-// messages one by one and have no bound.
+// messages one by one and have no bound. Events are told apart by `match`, since a history is made of them.
 ghost use Rattle.std.specs.Prelude.{◌≡◌, ◌<◌, ◌≤◌, [], ◌∷◌, ◌++◌, map, length, Some, OnOk, string_bytes};
 ghost use Rattle.dispatcher.specs.Machine.{call_of};
 ghost use Rattle.runner.specs.Lines as lines;

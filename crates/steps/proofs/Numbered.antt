@@ -1,29 +1,15 @@
--- Records with a bare step, and those with a number, are just the lists of bytes within their ranges.
+-- Records with a number are just the lists of bytes within their ranges.
 use Rattle.std.proofs.Common.{◌≡◌, ℕ, ◌+◌, ◌*◌, ◌<◌, List, get_or, Err, sym, refl, subst, rules}
 use Rattle.std.specs.List.{AllByRecursion}
 use Rattle.steps.specs.declared.fault.Unlawful.{Unlawful}
 use Rattle.steps.specs.declared.ranges.ByteRange.{ByteRange}
-use Rattle.steps.specs.Layout.{Byte, bare_bytes, numbered_bytes}
+use Rattle.steps.specs.Layout.{Byte, numbered_bytes}
 use Rattle.steps.specs.Ranges.{Cut, Within}
-use Rattle.steps.specs.Tables.{ranges_of_bare, ranges_of_numbered}
-use Rattle.steps.specs.Reading.{IsBare, IsNumbered, Reads, SomeIs}
+use Rattle.steps.specs.Tables.{ranges_of_numbered}
+use Rattle.steps.specs.Reading.{IsNumbered, Reads, SomeIs}
 use Rattle.steps.proofs.Insides.{cut_refused, Sound, within_bytes}
 
 module _ (step : ℕ) (small : step < 256) where
-  bare_sound : AllByRecursion Sound (ranges_of_bare step)
-  bare_sound = search rules
-
-  bare_within : (g : List ℕ) → Within (ranges_of_bare step) g → SomeIs (IsBare step) g
-  bare_within g w = (tt, (search rules, within_bytes (ranges_of_bare step) bare_sound g w))
-
-  within_bare : (g : List ℕ) → SomeIs (IsBare step) g → Within (ranges_of_bare step) g
-  within_bare g s =
-      let w : Within (ranges_of_bare step) (bare_bytes step) = search rules in
-      subst (Within (ranges_of_bare step)) (sym s.1.0) w
-
-  pub bare_refused : (rs : List ByteRange) (table : rs ≡ ranges_of_bare step) (bytes : List ℕ) (err : Unlawful) → Cut rs bytes (Err err) → Reads (IsBare step) 10 bytes (Err err)
-  bare_refused rs table bytes err c = cut_refused (ranges_of_bare step) bare_sound bare_within within_bare bytes err (subst (λ x. Cut x bytes (Err err)) table c)
-
   numbered_sound : AllByRecursion Sound (ranges_of_numbered step)
   numbered_sound = search rules
 

@@ -23,6 +23,7 @@ impl<M: Posted> Step<M> {
         ensures { Reads (IsStep M.Posted.format) 10 bytes.now result }
     {
         let first = bytes.first().ok_or(Unlawful { lawful_up_to: 0 })?;
+        // the byte is the format's, and what it stands for is a step
         match *first {
             1 => Ok(Step::Post(M::read_post(bytes)?)),
             2 => {

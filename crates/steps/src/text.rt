@@ -33,7 +33,7 @@ impl<M: fmt::Display> fmt::Display for Record<'_, M> {
     }
 }
 
-// "F" with the refusal's number and the offset.
+// "F" with the refusal's number and the offset. By hand, since a derive would not say what is written.
 impl fmt::Display for Fault {
     ghost output = { λ t. Some (fault_text t) };
 

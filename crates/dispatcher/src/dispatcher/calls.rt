@@ -213,7 +213,8 @@ where
     }
 }
 
-// Takes the first entry of a deadline out of its tray, if there is one.
+// Takes the first entry of a deadline out of its tray, if there is one; `Takes` is told what the bank's own trait tells
+// it.
 fn take_due<B: Bank>(bank: &mut B, ring: Ring, deadline: u32) -> Option<Entry<B::Item>>
     ensures takes { Takes B.Trays.trays B.Trays.tray_limit B.Trays.total_limit bank.old bank.new (deadline % (ring.span + 1)) (option_map cell_of result) }
     ensures due { IfSome result (λ entry. entry.deadline ≡ deadline) }

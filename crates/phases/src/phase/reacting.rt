@@ -1,4 +1,5 @@
-// The react phase: used to dispatch entries and to ask for warnings, and left for the output phase.
+// The react phase: used to dispatch entries and to ask for warnings, and left for the output phase. That a warning changes
+// nothing is a clause of its own, `same`, since it holds with no condition.
 ghost use Rattle.std.specs.Prelude.{◌≡◌};
 ghost use Rattle.dispatcher.specs.declared.call.Call.TheVariants.{Dispatch, Warn};
 ghost use Rattle.dispatcher.specs.declared.event.Event.TheVariants.{Dispatched, Warned};

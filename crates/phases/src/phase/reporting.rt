@@ -64,6 +64,7 @@ impl Report {
     }
 
     // Ends the driving, and answers its last cycle. The dispatcher keeps that it has begun, so it gives no other phase.
+    // `Output` has such a method too, and says why they are two.
     pub fn finish(self) -> u32
         ensures { result ≡ self.cycle }
     {

@@ -1,5 +1,6 @@
 // Making a row bank, and its calls. `lent` stands on each that makes or changes a bank, so that the caller knows that its
-// own table comes back: an invariant sees one bank, and not the one before the call.
+// own table comes back: an invariant sees one bank, and not the one before the call. The calls of the chain bank have the
+// same shape and share no code: here a place is computed, there a chain has it, and the traits are what both share.
 ghost use Rattle.std.specs.Prelude.{◌≡◌, ℕ, ◌*◌, ◌<◌, ◌≤◌, [], length, replicate, Ok};
 ghost use Rattle.banks.specs.Trays.{Puts, Takes};
 ghost use Rattle.rows.specs.Rings.{no_head, row_limit, row_number};

@@ -41,11 +41,3 @@ returns-else-due-services g c b s w o =
     let here = c.count.ensures ∙ ap (λ k. length (tray_at v.trays k)) (c.tray_of-tray.ensures ∙ tray_is d c.args.ring (d.cycle + l.ahead) c.requires.ring) in
     counted_all c.args.services v.cycle v.span s.pending (l.ahead + 1) c.saturating_add-due.result (omega arith)
     (counted_more c.args.services v.cycle v.span s.pending l.ahead l.due (omega arith) (omega arith) inv c.saturating_add-due.result (due_sum b v s w o c.args.services l.ahead l.due c.count.result c.saturating_add-due.result (omega arith) (omega arith) inv here (λ h. omega arith)) c.if-due-services.false)
-
-pub returns : goal.returns
-returns g c b s w o =
-    let d = c.args.self.now in
-    let v = view d in
-    let l = c.loop-ahead in
-    let span = span_is d c.args.ring c.requires.ring in
-    counted_all c.args.services v.cycle v.span s.pending l.ahead l.due (omega arith) (l.invariant b s w o)

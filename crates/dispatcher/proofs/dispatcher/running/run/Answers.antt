@@ -1,16 +1,9 @@
 use Rattle.std.proofs.Common.{◌≡◌, ◌+◌, [], ◌∷◌, ◌++◌, take, vec_items, sym, ap, ◌∙◌, subst, arith}
 use Rattle.std.proofs.lemmas.List.{take_all, take_more}
-use Rattle.std.proofs.lemmas.Result.{IfOk-from_err}
 use Rattle.dispatcher.specs.Steps.{terms}
 use Rattle.dispatcher.specs.Views.{View, view}
 use Rattle.dispatcher.proofs.RealRuns.{Ran, both_length, follows_accounts, follows_calls, follows_obeys, ran_more, ran_none}
 use Rattle.dispatcher.proofs.dispatcher.running.run.Goals as goal
-
-pub returns-in_err-push-clause-law : goal.returns-in_err-push-clause-law
-returns-in_err-push-clause-law g c = IfOk-from_err c.from_residual.result _ c.from_residual.ensures.0
-
-pub returns-in_err-push-clause-account : goal.returns-in_err-push-clause-account
-returns-in_err-push-clause-account g c = IfOk-from_err c.from_residual.result _ c.from_residual.ensures.0
 
 pub loop-call-init : goal.loop-call-init
 loop-call-init g c b s =

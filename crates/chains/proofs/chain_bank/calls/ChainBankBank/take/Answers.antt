@@ -1,17 +1,8 @@
-use Rattle.std.proofs.Common.{◌≡◌, get_or, take, Some, sym, refl, ap, ◌∙◌, arith}
-use Rattle.std.proofs.lemmas.List.{nil_from_length}
-use Rattle.banks.proofs.Cells.{take_none}
+use Rattle.std.proofs.Common.{◌≡◌, get_or, take, Some, sym, ap, ◌∙◌, arith}
 use Rattle.chains.specs.Chains.{chain_trays, counted, link_at, popped}
 use Rattle.chains.proofs.Moves.{counted_front, kept_rows, pop_rows, trays_exists}
 use Rattle.chains.proofs.Shifts.{inside_trays}
 use Rattle.chains.proofs.chain_bank.calls.ChainBankBank.take.Goals as goal
-
-pub returns-then-count-eq0-clause-takes : goal.returns-then-count-eq0-clause-takes
-returns-then-count-eq0-clause-takes g c =
-    let b = c.args.self.now in
-    let ts = chain_trays b.cells.now b.links.next b.trays b.links.heads in
-    let e = take_none ts c.args.tray (nil_from_length _ (omega arith)) in
-    record { answer = e.0; left = e.1; limits = (refl, refl) }
 
 pub release-place-requires : goal.release-place-requires
 release-place-requires g c =

@@ -1,17 +1,7 @@
 use Rattle.std.proofs.Common.{◌≡◌, get_or, Some, sym, refl, ap, ◌∙◌, arith}
-use Rattle.std.proofs.lemmas.List.{nil_from_length}
-use Rattle.banks.proofs.Cells.{take_none}
 use Rattle.rows.proofs.Turns.{row_exists, row_take}
 use Rattle.rows.specs.RowBanks.{entry_place}
-use Rattle.rows.specs.Rings.{row_trays}
 use Rattle.rows.proofs.row_bank.calls.RowBankBank.take.Goals as goal
-
-pub returns-then-count-eq0-clause-takes : goal.returns-then-count-eq0-clause-takes
-returns-then-count-eq0-clause-takes g c =
-    let b = c.args.self.now in
-    let ts = row_trays b.cells.now b.rows.limit b.rows.trays b.rows.heads in
-    let e = take_none ts c.args.tray (nil_from_length _ (omega arith)) in
-    record { answer = e.0; left = e.1; limits = (refl, refl) }
 
 pub pop-place-requires : goal.pop-place-requires
 pop-place-requires g c =
