@@ -1,7 +1,8 @@
 // The head of a tray.
 ghost use Rattle.std.specs.Prelude.{◌≡◌, ◌+◌, ◌%◌, ◌<◌, ◌≤◌};
 
-// A tray's cells lie in its row as in a ring: where in the row the first lies, and how many there are.
+// A tray's cells lie in its row as in a ring: where in the row the first lies, and how many there are. A head does not
+// know its ring, so each call is told how many places the ring has, and that they are at most 1,024.
 #[derive(Clone, Copy, Debug, Default, PartialEq, Eq)]
 pub struct Head {
     pub first: u16,
@@ -11,7 +12,6 @@ pub struct Head {
 impl Head {
     ghost use Rattle.rows.specs.Rings.{one_less, one_more};
 
-    // That a ring has at most 1,024 places is required, since a head does not know its ring.
     // One cell more at the end of a ring of `size` places that has room. Answers its place in the ring.
     pub(crate) fn push(&mut self, size: usize) -> usize
         requires has_room { self.old.count < size }

@@ -1,6 +1,7 @@
 // Making a chain bank, and its calls. None but the making takes longer for a longer table or a fuller tray.
 // `lent` stands on each that makes or changes a bank, so that the caller knows that its own table comes back: an invariant
-// sees one bank, and not the one before the call.
+// sees one bank, and not the one before the call. The calls of the row bank have the same shape and share no code: there a
+// place is computed, here a chain has it, and the traits are what both share.
 ghost use Rattle.std.specs.Prelude.{◌≡◌, [], length, replicate, Ok};
 ghost use Rattle.banks.specs.Trays.{Puts, Takes};
 ghost use Rattle.chains.specs.ChainBanks.{FillsSomeFreeCell, bank_cells, bank_limit, bank_trays};

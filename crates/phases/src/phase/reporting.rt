@@ -17,7 +17,7 @@ use messages::message::Timed;
 use messages::refusal::Refusal;
 
 impl Report {
-    // Begins to drive a dispatcher, which keeps that it has begun: its call `begin`.
+    // Begins to drive a dispatcher, which keeps that it has begun: its call `begin`, with that call's clauses.
     pub fn begin<B: Bank>(dispatcher: &mut Dispatcher<B>) -> Result<Report, Refusal>
     where
         B::Item: Timed,
