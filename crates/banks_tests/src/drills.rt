@@ -6,7 +6,7 @@ use std::process::Abort;
 use std::test::Fail;
 
 // Fills one tray until a put is refused, as the next is too, and takes all out again, in order. Answers how many went in.
-pub fn fill_and_empty<B: Bank<Item = Note>>(
+pub(crate) fn fill_and_empty<B: Bank<Item = Note>>(
     rt: &impl Abort,
     bank: &mut B,
     tray: usize,
@@ -28,7 +28,7 @@ pub fn fill_and_empty<B: Bank<Item = Note>>(
 }
 
 // Puts a cell into each tray and takes them out again, for many rounds, so that each tray goes round its row's end.
-pub fn interleave<B: Bank<Item = Note>>(
+pub(crate) fn interleave<B: Bank<Item = Note>>(
     rt: &impl Abort,
     bank: &mut B,
     rounds: u32,
@@ -51,7 +51,7 @@ pub fn interleave<B: Bank<Item = Note>>(
 }
 
 // A tray that does not exist holds nothing, gives nothing and takes nothing.
-pub fn no_such_tray<B: Bank<Item = Note>>(rt: &impl Abort, bank: &mut B, tray: usize) {
+pub(crate) fn no_such_tray<B: Bank<Item = Note>>(rt: &impl Abort, bank: &mut B, tray: usize) {
     let held = bank.total();
     assert_eq!(rt;
         bank.put(tray, 7, Note::default()),
@@ -64,13 +64,13 @@ pub fn no_such_tray<B: Bank<Item = Note>>(rt: &impl Abort, bank: &mut B, tray: u
 
 // The number of trays of a bank and both its limits.
 #[derive(Clone, Copy, Debug, PartialEq, Eq)]
-pub struct Measured {
+pub(crate) struct Measured {
     pub trays: usize,
     pub tray_limit: usize,
     pub total_limit: usize,
 }
 
-pub fn measures<B: Bank<Item = Note>>(bank: &B) -> Measured {
+pub(crate) fn measures<B: Bank<Item = Note>>(bank: &B) -> Measured {
     Measured {
         trays: bank.tray_count(),
         tray_limit: bank.tray_limit(),

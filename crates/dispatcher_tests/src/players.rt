@@ -9,7 +9,7 @@ use std::process::Abort;
 use std::test::Fail;
 
 // A tilt note of pad 7. The tests of the phases make their own: a crate for two small functions would be no plainer.
-pub fn note(interval: u8) -> Note {
+pub(crate) fn note(interval: u8) -> Note {
     Note {
         pad: 7,
         kind: NoteKind::Tilt,
@@ -19,7 +19,7 @@ pub fn note(interval: u8) -> Note {
 }
 
 // Such a note as an entry.
-pub fn entry(receipt: u32, interval: u8, deadline: u32) -> Entry<Note> {
+pub(crate) fn entry(receipt: u32, interval: u8, deadline: u32) -> Entry<Note> {
     Entry {
         receipt,
         message: note(interval),
@@ -28,7 +28,7 @@ pub fn entry(receipt: u32, interval: u8, deadline: u32) -> Entry<Note> {
 }
 
 // Makes the calls, and checks that each is answered as expected.
-pub fn play<B: Bank<Item = Note> + Drop>(
+pub(crate) fn play<B: Bank<Item = Note> + Drop>(
     rt: &(impl Abort + AllocGlobal),
     bank: B,
     calls: &[Call<Note>],

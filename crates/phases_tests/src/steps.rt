@@ -47,7 +47,7 @@ impl End for NextCycle {
 
 // A tilt note of pad 7. The tests of the dispatcher make their own: a crate for two small functions would be
 // no plainer.
-pub fn note(interval: u8) -> Note {
+pub(crate) fn note(interval: u8) -> Note {
     Note {
         pad: 7,
         kind: NoteKind::Tilt,
@@ -57,7 +57,7 @@ pub fn note(interval: u8) -> Note {
 }
 
 // Such a note as an entry.
-pub fn entry(receipt: u32, interval: u8, deadline: u32) -> Entry<Note> {
+pub(crate) fn entry(receipt: u32, interval: u8, deadline: u32) -> Entry<Note> {
     Entry {
         receipt,
         message: note(interval),
@@ -66,7 +66,11 @@ pub fn entry(receipt: u32, interval: u8, deadline: u32) -> Entry<Note> {
 }
 
 // The phase, if a value is the one that is wanted.
-pub fn keep<P: End, T: PartialEq + Debug + Drop>(phase: P, found: T, wanted: T) -> Result<P, Fail> {
+pub(crate) fn keep<P: End, T: PartialEq + Debug + Drop>(
+    phase: P,
+    found: T,
+    wanted: T,
+) -> Result<P, Fail> {
     if found == wanted {
         Ok(phase)
     } else {
@@ -94,11 +98,11 @@ fn stay<P: End, Q: End>(step: Result<Q, Refused<P>>, why: Refusal) -> Result<P, 
     }
 }
 
-pub fn begin<B: Bank<Item = Note>>(dispatcher: &mut Dispatcher<B>) -> Result<Report, Fail> {
+pub(crate) fn begin<B: Bank<Item = Note>>(dispatcher: &mut Dispatcher<B>) -> Result<Report, Fail> {
     Report::begin(dispatcher).map_err(|_| Fail::new("the beginning is refused"))
 }
 
-pub fn name<B: Bank<Item = Note>>(
+pub(crate) fn name<B: Bank<Item = Note>>(
     report: Report,
     dispatcher: &mut Dispatcher<B>,
     answer: Result<Option<Entry<Note>>, Refusal>,
@@ -107,7 +111,7 @@ pub fn name<B: Bank<Item = Note>>(
     keep(report, named, answer)
 }
 
-pub fn detect<B: Bank<Item = Note>>(
+pub(crate) fn detect<B: Bank<Item = Note>>(
     report: Report,
     dispatcher: &mut Dispatcher<B>,
 ) -> Result<Detect, Fail> {
@@ -115,7 +119,7 @@ pub fn detect<B: Bank<Item = Note>>(
 }
 
 // The report phase cannot be left.
-pub fn keep_reporting<B: Bank<Item = Note>>(
+pub(crate) fn keep_reporting<B: Bank<Item = Note>>(
     report: Report,
     dispatcher: &mut Dispatcher<B>,
     why: Refusal,
@@ -123,7 +127,7 @@ pub fn keep_reporting<B: Bank<Item = Note>>(
     stay(report.detect(dispatcher), why)
 }
 
-pub fn post<B: Bank<Item = Note>>(
+pub(crate) fn post<B: Bank<Item = Note>>(
     detect: Detect,
     dispatcher: &mut Dispatcher<B>,
     message: Note,
@@ -133,7 +137,7 @@ pub fn post<B: Bank<Item = Note>>(
     keep(detect, posted, answer)
 }
 
-pub fn dispatch<B: Bank<Item = Note>>(
+pub(crate) fn dispatch<B: Bank<Item = Note>>(
     mut react: React,
     dispatcher: &mut Dispatcher<B>,
     answer: Result<Option<Entry<Note>>, Refusal>,
@@ -143,12 +147,12 @@ pub fn dispatch<B: Bank<Item = Note>>(
 }
 
 // What the output phase counted.
-pub fn count(output: Output, dispatched: u32) -> Result<Output, Fail> {
+pub(crate) fn count(output: Output, dispatched: u32) -> Result<Output, Fail> {
     let counted = output.dispatched();
     keep(output, counted, dispatched)
 }
 
-pub fn turn<B: Bank<Item = Note>>(
+pub(crate) fn turn<B: Bank<Item = Note>>(
     output: Output,
     dispatcher: &mut Dispatcher<B>,
     cycle: u32,
@@ -159,7 +163,7 @@ pub fn turn<B: Bank<Item = Note>>(
 }
 
 // The output phase cannot be left.
-pub fn keep_output<B: Bank<Item = Note>>(
+pub(crate) fn keep_output<B: Bank<Item = Note>>(
     output: Output,
     dispatcher: &mut Dispatcher<B>,
     cycle: u32,
