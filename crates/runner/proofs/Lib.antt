@@ -1,8 +1,10 @@
+mod Writing
 mod Joining
 mod Widths
 mod Rooms
 mod Gathering
 mod Bounds
+mod Holding
 mod Listed
 mod BankTerms
 mod Playing

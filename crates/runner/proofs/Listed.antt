@@ -1,12 +1,14 @@
 -- The calls of a file are few, and its fault has a short line.
-use Rattle.std.proofs.Common.{◌≡◌, ℕ, ◌+◌, ◌*◌, ◌≤◌, List, [], ◌∷◌, map, length, Some, None, Option, sym, refl, ap, subst, arith, length-append}
+use Rattle.std.proofs.Common.{◌≡◌, ℕ, ◌+◌, ◌*◌, ◌<◌, ◌≤◌, List, [], ◌∷◌, map, length, Some, None, Option, sym, refl, ap, subst, ⊎_elim, arith, length-append}
 use Rattle.std.specs.List.{AllByRecursion}
 use Rattle.std.proofs.ByRecursion.{All-append}
 use Rattle.std.proofs.lemmas.List.{length-map}
+use Rattle.std.proofs.lemmas.Bool.{cases_lt}
 use Rattle.dispatcher.specs.declared.call.Call.{Call}
 use Rattle.dispatcher.specs.declared.event.Event.{Event}
 use Rattle.dispatcher.specs.Machine.{Terms, call_of, run}
-use Rattle.steps.specs.Lawful.{longest}
+use Rattle.messages.specs.declared.refusal.Refusal.TheVariants.{BadHeader}
+use Rattle.steps.specs.Lawful.{Faulty, longest}
 use Rattle.steps.specs.Layout.{Format, file_bytes}
 use Rattle.steps.specs.declared.fault.Fault.{Fault}
 use Rattle.steps.specs.declared.header.Header.{Header}
@@ -15,9 +17,15 @@ use Rattle.steps.specs.declared.step.Step.TheVariants.{Post, Dispatch, Turn, Nam
 use Rattle.steps.proofs.Lengths.{file_length}
 use Rattle.runner.specs.Calls.{call_for, calls_for, last_calls}
 use Rattle.runner.specs.Files.{CallsOf, Tells}
+use Rattle.runner.specs.Lines.{fault_line}
 use Rattle.runner.specs.Room.{BriefEvent, BriefFault, FewCalls, FromZero, room, room_for}
 use Rattle.runner.proofs.Bounds.{run_brief}
 use Rattle.runner.proofs.Rooms.{room_append}
+use Rattle.runner.proofs.Widths.{fault_room}
+
+pub fault_short : (fault : Option Fault) → BriefFault fault → length (fault_line fault) ≤ 11
+fault_short None h = omega arith
+fault_short (Some fault) h = fault_room 70 fault.refusal fault.offset h
 
 module _ (M : Type 0) where
   last_room : (fault : Option Fault) → room_for {M = M} (last_calls fault) ≤ 27
@@ -100,3 +108,16 @@ module _ {M : Type 0} where
 
     pub history_room : map call_of h ≡ calls → room_for (map call_of h) + 11 ≤ 65536
     history_room e = let r = ap room_for e in let l = few.fit in omega arith
+
+-- a fault in the header is one of the first eight bytes, or of a file that is too long
+pub header_brief : (file : List ℕ) (fault : Fault) → Faulty file fault → fault.refusal ≡ BadHeader → BriefFault (Some fault)
+header_brief file fault f e =
+    ⊎_elim
+    (λ (long : longest < length file). let p = (f.too_long long).1 in omega arith)
+    (λ (short : length file ≤ longest).
+    ⊎_elim
+    (λ (early : fault.offset < 8). omega arith)
+    (λ (late : 8 ≤ fault.offset).
+    absurd (let k = f.in_record short late in let z : ◌≡◌ {A = ℕ} 0 1 = cc in omega arith))
+    (cases_lt fault.offset 8))
+    (cases_lt longest (length file))

@@ -1,15 +1,14 @@
 -- How long lines with brief numbers are.
-use Rattle.std.proofs.Common.{◌≡◌, ℕ, ◌+◌, ◌<◌, ◌≤◌, List, [], ◌∷◌, length, Some, None, Option, decimal, refl, arith, length-append}
+use Rattle.std.proofs.Common.{◌≡◌, ℕ, ◌+◌, ◌<◌, ◌≤◌, List, [], ◌∷◌, length, decimal, refl, arith, length-append}
 use Rattle.std.specs.List.{flat_map}
 use Rattle.std.proofs.lemmas.Fmt.{length-decimal-le}
 use Rattle.messages.specs.declared.refusal.Refusal.{Refusal}
 use Rattle.messages.specs.declared.refusal.Refusal.TheVariants.{Shut, AlreadyOpen, StartTooHigh, UnfitBank, IntervalOutOfRange, Full, ReceiptsUsedUp, NotNextCycle, LateWaiting, CyclesUsedUp, OutOfPhase, TooManyServices, BadHeader, BadRecord, NoSuchTray, OutputTooShort}
 use Rattle.messages.specs.Refusals.{refusal_number}
-use Rattle.steps.specs.declared.fault.Fault.{Fault}
-use Rattle.runner.specs.Lines.{fault_line, line, part}
+use Rattle.runner.specs.Lines.{line, part}
 use Rattle.dispatcher.specs.declared.call.Call.{Call}
 use Rattle.dispatcher.specs.declared.call.Call.TheVariants.{Ask, Begin, Dispatch, Name, Open, Post, Turn, Warn}
-use Rattle.runner.specs.Room.{Brief, BriefFault, room}
+use Rattle.runner.specs.Room.{Brief, room}
 
 total : List ℕ → ℕ
 total [] = 0
@@ -31,7 +30,7 @@ brief_width n h = length-decimal-le 4 n (omega arith) h (omega arith)
 byte_width : (n : ℕ) → n < 256 → length (decimal n) ≤ 3
 byte_width n h = length-decimal-le 3 n (omega arith) (omega arith) (omega arith)
 
-small_refusal : (k : Refusal) → refusal_number k < 17
+pub small_refusal : (k : Refusal) → refusal_number k < 17
 small_refusal Shut = omega arith
 small_refusal AlreadyOpen = omega arith
 small_refusal StartTooHigh = omega arith
@@ -51,6 +50,11 @@ small_refusal OutputTooShort = omega arith
 
 refusal_width : (k : Refusal) → length (decimal (refusal_number k)) ≤ 2
 refusal_width k = let s = small_refusal k in length-decimal-le 2 (refusal_number k) (omega arith) (omega arith) (omega arith)
+
+pub refused_room : (letter : ℕ) (k : Refusal) → length (line (letter ∷ []) (refusal_number k ∷ [])) ≤ 20
+unfolding total
+refused_room letter k =
+    let e = line_length letter (refusal_number k ∷ []) in let a = refusal_width k in omega arith
 
 pub two_room : (letter a b : ℕ) → Brief a → Brief b → length (line (letter ∷ []) (a ∷ b ∷ [])) ≤ 20
 unfolding total
@@ -76,16 +80,15 @@ five_room letter a b c d e h i j k l =
     let s = brief_width d k in
     let t = brief_width e l in omega arith
 
-pub fault_short : (fault : Option Fault) → BriefFault fault → length (fault_line fault) ≤ 11
+pub fault_room : (letter : ℕ) (k : Refusal) (offset : ℕ) → offset < 100000 → length (line (letter ∷ []) (refusal_number k ∷ offset ∷ [])) ≤ 11
 unfolding total
-fault_short None h = omega arith
-fault_short (Some fault) h =
-    let e = line_length 70 (refusal_number fault.refusal ∷ fault.offset ∷ []) in
-    let a = refusal_width fault.refusal in
-    let b = length-decimal-le 5 fault.offset (omega arith) h (omega arith) in omega arith
+fault_room letter k offset h =
+    let e = line_length letter (refusal_number k ∷ offset ∷ []) in
+    let a = refusal_width k in
+    let b = length-decimal-le 5 offset (omega arith) h (omega arith) in omega arith
 
 -- no call's line has less room than this
-least_room : {M : Type 0} (c : Call M) → 20 ≤ room c
+pub least_room : {M : Type 0} (c : Call M) → 20 ≤ room c
 least_room (Open z r) = omega arith
 least_room (Post m) = omega arith
 least_room Dispatch = omega arith
@@ -95,9 +98,16 @@ least_room (Warn c) = omega arith
 least_room Begin = omega arith
 least_room Ask = omega arith
 
-pub refused_room : {M : Type 0} (letter : ℕ) (k : Refusal) (c : Call M) → length (line (letter ∷ []) (refusal_number k ∷ [])) ≤ room c
+-- the same, as the room that the output has
+pub two_fit : (letter a b at len : ℕ) → Brief a → Brief b → at + 20 ≤ len → at + length (line (letter ∷ []) (a ∷ b ∷ [])) ≤ len
+two_fit letter a b at len h i l = let r = two_room letter a b h i in omega arith
+
+pub entry_fits : (letter a b c d at len : ℕ) → Brief a → Brief b → c < 256 → d < 256 → at + 20 ≤ len → at + length (line (letter ∷ []) (a ∷ b ∷ c ∷ d ∷ [])) ≤ len
+entry_fits letter a b c d at len h i j k l = let r = entry_room letter a b c d h i j k in omega arith
+
+pub fault_fits : (letter a b at len : ℕ) → a < 100 → b < 100000 → at + 11 ≤ len → at + length (line (letter ∷ []) (a ∷ b ∷ [])) ≤ len
 unfolding total
-refused_room letter k c =
-    let e = line_length letter (refusal_number k ∷ []) in
-    let a = refusal_width k in
-    let b = least_room c in omega arith
+fault_fits letter a b at len h i l =
+    let e = line_length letter (a ∷ b ∷ []) in
+    let p = length-decimal-le 2 a (omega arith) h (omega arith) in
+    let q = length-decimal-le 5 b (omega arith) i (omega arith) in omega arith

@@ -1,5 +1,5 @@
 -- What listing a file answers, and what it leaves in the output.
-use Rattle.std.specs.Prelude.{◌≡◌, ℕ, ◌<◌, ◌≤◌, List, length, Ok, Err, Result}
+use Rattle.std.specs.Prelude.{◌≡◌, ℕ, ◌<◌, ◌≤◌, List, length, Some, None, Option, Ok, Err, Result}
 use Rattle.messages.specs.declared.refusal.Refusal.TheVariants.{OutputTooShort}
 use Rattle.runner.specs.declared.listing.Unlisted.{Unlisted}
 use Rattle.runner.specs.declared.listing.Unlisted.TheVariants.{NoMemory, Refused}
@@ -20,3 +20,8 @@ Lists file before after (Err (Refused k)) =
     (length before < output_size) × (k ≡ OutputTooShort) × (after ≡ before)
 Lists file before after (Err (NoMemory e)) =
     (output_size ≤ length before) × HasHeader file × (after ≡ before)
+
+-- the listing of a file whose header is unlawful, and its length; of another file nothing, and then the output is what it was
+abbrev pub ListsHeaderFault : List ℕ → List ℕ → List ℕ → Option ℕ → Type 0
+ListsHeaderFault file before after (Some n) = (text : List ℕ) × IsListing file text × Holds text before after n
+ListsHeaderFault file before after None = HasHeader file × (after ≡ before)

@@ -5,3 +5,4 @@ mod calls;
 pub mod laws;
 mod lines;
 pub mod listing;
+mod text;

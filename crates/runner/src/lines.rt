@@ -1,109 +1,107 @@
-// The line of each event, and that of a fault. Each function says what it wrote and how long that is; the lines differ, so
-// there is no one fact to share. What a message tells is two functions in the definitions, which name the types of
-// messages one by one and have no bound. Events are told apart by `match`, since a history is made of them.
-ghost use Rattle.std.specs.Prelude.{◌≡◌, ◌<◌, ◌≤◌, [], ◌∷◌, ◌++◌, map, length, Some, OnOk, string_bytes};
+// Writing the line of each event, and that of a fault.
+ghost use Rattle.std.specs.Prelude.{◌+◌, ◌≤◌, [], ◌∷◌, map, length};
 ghost use Rattle.dispatcher.specs.Machine.{call_of};
-ghost use Rattle.runner.specs.Lines as lines;
-ghost use Rattle.runner.specs.Lines.{entry_line, line_of};
-ghost use Rattle.runner.specs.Room.{BriefEntry, BriefEvent, BriefFault, room, room_for};
+ghost use Rattle.runner.specs.Lines.{entry_line, fault_line, line_of, warning_line};
+ghost use Rattle.runner.specs.Output.{Wrote};
+ghost use Rattle.runner.specs.Room.{BriefEntry, BriefEvent, BriefFault, BriefWarning, room, room_for};
 ghost use Rattle.std.specs.List.{flat_map, AllByRecursion};
 
-use arrayvec::ArrayString;
-use dispatcher::entry::Entry;
+use crate::text::{write_line, write_none};
+use dispatcher::entry::{Entry, Warning};
 use dispatcher::event::Event;
-use itoa::Buffer;
 use messages::message::Message;
-use std::alloc::AllocError;
 use steps::fault::Fault;
 
-// As many bytes as "F", two spaces, the longest `u8`, the longest `usize` and the end of the line have.
-const LONGEST_FAULT: usize = 27;
-
-// Writes the lines of all events, whose numbers are brief.
-pub(crate) fn write_events<M: Message>(
-    text: &mut String,
-    events: &[Event<M>],
-) -> Result<(), AllocError>
-    requires { AllByRecursion BriefEvent events.now }
-    ensures wrote { OnOk result (string_bytes text.new ≡ string_bytes text.old ++ flat_map (line_of M.Message.pad M.Message.kind) events.now) }
-    ensures short { OnOk result (length (flat_map (line_of M.Message.pad M.Message.kind) events.now) ≤ room_for (map call_of events.now)) }
-{
-    for event in events {
-        write_event(text, *event)?;
-    }
-    Ok(())
-}
-
-// Writes the line of an event; an opening and a beginning have none.
-fn write_event<M: Message>(text: &mut String, event: Event<M>) -> Result<(), AllocError>
-    requires { BriefEvent event }
-    ensures wrote { OnOk result (string_bytes text.new ≡ string_bytes text.old ++ line_of M.Message.pad M.Message.kind event) }
-    ensures short { length (line_of M.Message.pad M.Message.kind event) ≤ room (call_of event) }
+// The line of an event whose numbers are brief.
+fn write_event<M: Message>(out: &mut [u8], at: usize, event: Event<M>) -> usize
+    requires room { at + room (call_of event) ≤ length out.old }
+    requires brief { BriefEvent event }
+    ensures wrote { Wrote out.old at (line_of M.Message.pad M.Message.kind event) out.new result }
+    ensures short { result ≤ at + room (call_of event) }
 {
     match event {
-        Event::Opened(_, _) | Event::Begun => Ok(()),
-        Event::Refused(_, refusal) => writeln!(text, "R {}", refusal.number()),
-        Event::Posted(entry) => writeln!(text, "P {} {}", entry.receipt, entry.deadline),
-        Event::Dispatched(entry) => write_entry(text, 'D', entry),
-        Event::Turned(cycle, late) => writeln!(text, "T {cycle} {late}"),
-        Event::Named(entry) => write_entry(text, 'L', entry),
-        Event::Warned(_, Some(warning)) => writeln!(text, "W {} {}", warning.ahead, warning.load),
-        Event::Warned(_, None) => writeln!(text, "W -"),
-        Event::Asked(end) => writeln!(
-            text,
-            "E {} {} {} {} {}",
-            end.accepted, end.dispatched, end.late, end.pending, end.waiting,
-        ),
+        Event::Refused(_, refusal) => write_line(out, at, b'R', &[refusal.number() as usize]),
+        Event::Opened(_, _) => at,
+        Event::Posted(entry) => {
+            let numbers = [entry.receipt as usize, entry.deadline as usize];
+            write_line(out, at, b'P', &numbers)
+        }
+        Event::Dispatched(entry) => write_entry(out, at, b'D', entry),
+        Event::Turned(cycle, late) => write_line(out, at, b'T', &[cycle as usize, late]),
+        Event::Named(entry) => write_entry(out, at, b'L', entry),
+        Event::Warned(_, warning) => write_warning(out, at, warning),
+        Event::Begun => at,
+        Event::Asked(end) => {
+            let numbers = [
+                end.accepted,
+                end.dispatched,
+                end.late,
+                end.pending,
+                end.waiting,
+            ];
+            write_line(out, at, b'E', &numbers)
+        }
     }
 }
 
-// Writes the line of an entry that was given out, or of none.
-fn write_entry<M: Message>(
-    text: &mut String,
-    letter: char,
-    entry: Option<Entry<M>>,
-) -> Result<(), AllocError>
+// An entry that was given out, or none.
+fn write_entry<M: Message>(out: &mut [u8], at: usize, letter: u8, entry: Option<Entry<M>>) -> usize
+    requires room { at + 20 ≤ length out.old }
     requires brief { BriefEntry entry }
-    requires letter { letter < 128 }
-    ensures wrote { OnOk result (string_bytes text.new ≡ string_bytes text.old ++ entry_line M.Message.pad M.Message.kind (letter ∷ []) entry) }
-    ensures short { length (entry_line M.Message.pad M.Message.kind (letter ∷ []) entry) ≤ 20 }
+    ensures wrote { Wrote out.old at (entry_line M.Message.pad M.Message.kind (letter ∷ []) entry) out.new result }
+    ensures short { result ≤ at + 20 }
 {
     let Some(entry) = entry else {
-        return writeln!(text, "{letter} -");
+        return write_none(out, at, letter);
     };
-    let Entry {
-        receipt,
-        message,
-        deadline,
-    } = entry;
-    let pad = message.pad();
-    let kind = message.kind();
-    writeln!(text, "{letter} {receipt} {deadline} {pad} {kind}")
+    let receipt = entry.receipt as usize;
+    let deadline = entry.deadline as usize;
+    let pad = entry.message.pad() as usize;
+    let kind = entry.message.kind() as usize;
+    let numbers = [receipt, deadline, pad, kind];
+    write_line(out, at, letter, &numbers)
 }
 
-// Writes where the file stops being lawful, if it does.
-#[tactic(auto, using(crate::proofs::Widths::fault_short))]
-pub(crate) fn write_fault(text: &mut String, fault: Option<Fault>) -> Result<(), AllocError>
-    requires { BriefFault fault }
-    ensures wrote { OnOk result (string_bytes text.new ≡ string_bytes text.old ++ lines.fault_line fault) }
-    ensures short { length (lines.fault_line fault) ≤ 11 }
+// What a warning named, or none.
+fn write_warning(out: &mut [u8], at: usize, warning: Option<Warning>) -> usize
+    requires room { at + 20 ≤ length out.old }
+    requires brief { BriefWarning warning }
+    ensures wrote { Wrote out.old at (warning_line warning) out.new result }
+    ensures short { result ≤ at + 20 }
+{
+    let Some(warning) = warning else {
+        return write_none(out, at, b'W');
+    };
+    write_line(out, at, b'W', &[warning.ahead, warning.load])
+}
+
+// Where the file stops being lawful, if it does.
+pub(crate) fn write_fault(out: &mut [u8], at: usize, fault: Option<Fault>) -> usize
+    requires room { at + 11 ≤ length out.old }
+    requires brief { BriefFault fault }
+    ensures { Wrote out.old at (fault_line fault) out.new result }
 {
     let Some(fault) = fault else {
-        return Ok(());
+        return at;
     };
-    text.push_str(fault_line(fault).as_str())
+    write_line(
+        out,
+        at,
+        b'F',
+        &[fault.refusal.number() as usize, fault.offset],
+    )
 }
 
-// The line of a fault. It wants no memory, since the listing of a file with no lawful header wants none. It is not written
-// by `writeln!` of the fault, since that does not promise to go well where the line has room.
-pub(crate) fn fault_line(fault: Fault) -> ArrayString<LONGEST_FAULT>
-    ensures { result.bytes ≡ lines.fault_line (Some fault) }
+// The lines of all events, from the start of the output on.
+pub(crate) fn write_events<M: Message>(out: &mut [u8], events: &[Event<M>]) -> usize
+    requires room { room_for (map call_of events.now) ≤ length out.old }
+    requires brief { AllByRecursion BriefEvent events.now }
+    ensures wrote { Wrote out.old 0 (flat_map (line_of M.Message.pad M.Message.kind) events.now) out.new result }
+    ensures short { result ≤ room_for (map call_of events.now) }
 {
-    let mut line = ArrayString::new();
-    line.push_str("F ");
-    line.push_str(Buffer::new().format(fault.refusal.number()));
-    line.push_str(" ");
-    line.push_str(Buffer::new().format(fault.offset));
-    line.push_str("\n");
-    line
+    let mut end = 0;
+    for event in events {
+        end = write_event(out, end, *event);
+    }
+    end
 }

@@ -8,7 +8,7 @@ use thiserror::Error;
 
 mod making;
 
-pub use making::{OUTPUT, list};
+pub use making::{FAULT_LINE, OUTPUT, list, list_header_fault};
 
 // Why there is no listing: the output is too short, which is the refusal 16, or there was no memory.
 #[derive(Clone, Copy, Debug, PartialEq, Eq, Error)]

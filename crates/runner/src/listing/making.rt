@@ -1,7 +1,7 @@
 // Making the listing of a steps file.
-ghost use Rattle.std.specs.Prelude.{◌≡◌, ℕ, ◌≤◌, List, [], length, IfOk, MatchResult, string_bytes};
+ghost use Rattle.std.specs.Prelude.{◌≡◌, ℕ, ◌≤◌, List, [], length, MatchResult};
 ghost use Rattle.dispatcher.specs.Steps.{terms};
-ghost use Rattle.runner.specs.Answers.{Lists, output_size};
+ghost use Rattle.runner.specs.Answers.{Lists, ListsHeaderFault, output_size};
 ghost use Rattle.runner.specs.Files.{HasHeader};
 ghost use Rattle.runner.specs.Listings.{IsListing, ListsSteps, listing_over};
 ghost use Rattle.runner.specs.Output.{Holds};
@@ -10,7 +10,7 @@ ghost use Rattle.steps.specs.Progress.{HasRead};
 
 use super::Unlisted;
 use crate::calls::read_calls;
-use crate::lines::{fault_line, write_events, write_fault};
+use crate::lines::{write_events, write_fault};
 use banks::bank::Bank;
 use banks::cell::Cell;
 use chains::chain_bank::ChainBank;
@@ -29,6 +29,9 @@ use steps::steps_file::StepsFile;
 // An output of so many bytes holds every listing.
 pub const OUTPUT: usize = 65_536;
 
+// The line of a fault in the header has at most so many bytes.
+pub const FAULT_LINE: usize = 11;
+
 // How many cells the lesson's bank has.
 const CELLS: usize = 256;
 
@@ -42,65 +45,79 @@ pub fn list(heap: Global, file: &[u8], out: &mut [u8]) -> Result<usize, Unlisted
     Ok(list_file(heap, file, out)?)
 }
 
-// The same, into an output that is long enough. It is written only once the whole text is there.
+// The same for a file whose header is unlawful, whose listing is one line: it wants no memory, and of the output no more than
+// that line. None for another file, and then nothing is written.
+pub fn list_header_fault(file: &[u8], out: &mut [u8; FAULT_LINE]) -> Option<usize>
+    ensures { ListsHeaderFault file.now out.old out.new result }
+{
+    match StepsFile::open(file) {
+        Ok(_) => None,
+        Err(fault) => Some(write_fault(out, 0, Some(fault))),
+    }
+}
+
+// The listing of any file, into an output that is long enough.
 fn list_file(heap: Global, file: &[u8], out: &mut [u8]) -> Result<usize, AllocError>
     requires { output_size ≤ length out.old }
     ensures { MatchResult result (λ n. (text : List ℕ) × IsListing file.now text × Holds text out.old out.new n) (λ _. HasHeader file.now × (out.new ≡ out.old)) }
 {
-    let text = match StepsFile::open(file) {
-        Ok(StepsFile::Pen(records)) => play(heap, records, &mut [Cell::default(); CELLS])?,
-        Ok(StepsFile::Note(records)) => play(heap, records, &mut [Cell::default(); CELLS])?,
-        Err(fault) => return Ok(fill(out, fault_line(fault).as_str())),
-    };
-    Ok(fill(out, text.as_str()))
+    match StepsFile::open(file) {
+        Ok(StepsFile::Pen(records)) => play(heap, records, &mut [Cell::default(); CELLS], out),
+        Ok(StepsFile::Note(records)) => play(heap, records, &mut [Cell::default(); CELLS], out),
+        Err(fault) => Ok(write_fault(out, 0, Some(fault))),
+    }
 }
 
-// Runs the records over the bank that the header asks for; answers the listing.
+// Runs the records over the bank that the header asks for.
 fn play<M: Posted>(
     heap: Global,
     records: Records<M>,
     cells: &mut [Cell<M>],
-) -> Result<String, AllocError>
+    out: &mut [u8],
+) -> Result<usize, AllocError>
     requires begun { HasRead M.Posted.format records [] }
     requires cells { length cells.old ≡ 256 }
-    ensures listing { IfOk result (λ text. ListsSteps (record { format = M.Posted.format; pad = M.Message.pad; kind = M.Message.kind; interval = M.Timed.interval }) records.entry.file.now (string_bytes text)) }
-    ensures short { IfOk result (λ text. length (string_bytes text) ≤ output_size) }
+    requires room { output_size ≤ length out.old }
+    ensures { MatchResult result (λ n. (text : List ℕ) × ListsSteps (record { format = M.Posted.format; pad = M.Message.pad; kind = M.Message.kind; interval = M.Timed.interval }) records.entry.file.now text × Holds text out.old out.new n) (λ _. out.new ≡ out.old) }
 {
     let header = records.header();
     let trays = usize::from(header.trays);
     let (calls, fault) = read_calls(heap, records)?;
     match header.bank {
-        BankKind::Row => list_run(heap, RowBank::new(cells, trays), calls.as_slice(), fault),
-        BankKind::Chain => list_run(heap, ChainBank::new(cells, trays), calls.as_slice(), fault),
+        BankKind::Row => list_run(
+            heap,
+            RowBank::new(cells, trays),
+            calls.as_slice(),
+            fault,
+            out,
+        ),
+        BankKind::Chain => list_run(
+            heap,
+            ChainBank::new(cells, trays),
+            calls.as_slice(),
+            fault,
+            out,
+        ),
     }
 }
 
-// Makes the calls, and lists their events and the fault.
+// Makes the calls, and then writes the line of each event and that of the fault. Once the calls were made nothing can fail:
+// the lines are written straight to the output, and want no memory.
 fn list_run<B: Bank + Drop>(
     heap: Global,
     bank: B,
     calls: &[Call<B::Item>],
     fault: Option<Fault>,
-) -> Result<String, AllocError>
+    out: &mut [u8],
+) -> Result<usize, AllocError>
 where
     B::Item: Timed,
     requires few { FewCalls calls.now }
     requires brief { BriefFault fault }
-    ensures listing { IfOk result (λ text. string_bytes text ≡ listing_over B.Item.Message.pad B.Item.Message.kind (terms B.Trays B.Item.Timed.interval bank) calls.now fault) }
-    ensures short { IfOk result (λ text. length (string_bytes text) ≤ output_size) }
+    requires room { output_size ≤ length out.old }
+    ensures { MatchResult result (Holds (listing_over B.Item.Message.pad B.Item.Message.kind (terms B.Trays B.Item.Timed.interval bank) calls.now fault) out.old out.new) (λ _. out.new ≡ out.old) }
 {
     let (_dispatcher, events) = run(heap, bank, calls)?;
-    let mut text = String::new(heap);
-    write_events(&mut text, events.as_slice())?;
-    write_fault(&mut text, fault)?;
-    Ok(text)
-}
-
-// Writes a text to the start of the output, and answers its length.
-fn fill(out: &mut [u8], text: &str) -> usize
-    requires { length text.now ≤ length out.old }
-    ensures { Holds text.now out.old out.new result }
-{
-    out[..text.len()].copy_from_slice(text.as_bytes());
-    text.len()
+    let end = write_events(out, events.as_slice());
+    Ok(write_fault(out, end, fault))
 }
