@@ -51,6 +51,16 @@ pub struct Note {
     pub payload: u32,
 }
 
+impl Note {
+    // What a cell holds that holds no entry yet.
+    pub const BLANK: Note = Note {
+        pad: 0,
+        kind: NoteKind::PageKey,
+        interval: 0,
+        payload: 0,
+    };
+}
+
 impl Message for Note {
     ghost pad = { λ n. n.pad };
 

@@ -63,6 +63,17 @@ pub struct PenMessage {
     pub force: u16,
 }
 
+impl PenMessage {
+    // What a cell holds that holds no entry yet.
+    pub const BLANK: PenMessage = PenMessage {
+        pad: 0,
+        stage: Stage::Down,
+        x: 0,
+        y: 0,
+        force: 0,
+    };
+}
+
 impl Message for PenMessage {
     ghost pad = { λ m. m.pad };
 
