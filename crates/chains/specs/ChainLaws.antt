@@ -5,9 +5,9 @@ use Rattle.banks.specs.Tables.{cell_at}
 use Rattle.banks.specs.Trays.{tray_at, held_in}
 use Rattle.banks.proofs.Holding.{tray_held}
 use Rattle.chains.specs.declared.chain_bank.ChainBank.{ChainBank}
-use Rattle.chains.specs.ChainBanks.{bank_limit, bank_trays}
+use Rattle.chains.specs.ChainBanks.{WithoutEntry, bank_limit, bank_trays}
 use Rattle.chains.specs.declared.link.Link.{Link}
-use Rattle.chains.specs.Chains.{chain_cells, chain_rows, chain_trays, counted, step}
+use Rattle.chains.specs.Chains.{Free, chain_cells, chain_rows, chain_trays, counted, step}
 
 pub chain_at_most : {C : Type 0} (cells : List C) (next : List ℕ) (from n : ℕ) → length (chain_cells cells next from n) ≤ n
 chain_at_most cells next from zero = omega arith
@@ -46,3 +46,7 @@ module _ {M : Type 0} (b : ChainBank M) where
   limits_some l =
       let f = trays_few b.cells.now b.links.next b.trays b.links.heads in
       let p = b.some (omega arith) in (p, p)
+
+  -- a place of no tray's chain is one that no tray has an entry at
+  pub without_entry : (p : ℕ) → Free b.links.heads b.links.next p → WithoutEntry b p
+  without_entry p free k i less = free k i

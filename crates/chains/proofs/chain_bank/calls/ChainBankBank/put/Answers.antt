@@ -1,5 +1,6 @@
 use Rattle.std.proofs.Common.{◌<◌, refl, ap, inl, inr, arith}
 use Rattle.banks.proofs.Holding.{tray_held}
+use Rattle.chains.specs.ChainLaws.{without_entry}
 use Rattle.chains.specs.Chains.{chain_trays, counted, pushed, link_at}
 use Rattle.std.proofs.Common.{take}
 use Rattle.chains.proofs.Moves.{counted_front, put_rows, trays_count, trays_held}
@@ -50,3 +51,8 @@ returns-clause-puts g c =
       );
       limits = (s.size, s.size);
     }
+
+pub returns-clause-fills : goal.returns-clause-fills
+returns-clause-fills g c =
+    let s = c.fill-place.ensures in
+    λ _. record { chosen = c.fill-place.result; serving = s.inside; free = without_entry c.args.self.now c.fill-place.result s.free; table = refl }
