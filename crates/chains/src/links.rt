@@ -1,6 +1,6 @@
 // Chains of places, one for each tray and one of the free places.
 ghost use Rattle.std.specs.Prelude.{◌≡◌, ℕ, ◌+◌, ◌<◌, ◌≤◌, length, replicate, slice_index, slice_set};
-ghost use Rattle.chains.specs.Chains.{Apart, Ends, Free, Grown, Has, Inside, counted, every_place, link_at, no_link, place, pushed, with_free, without};
+ghost use Rattle.chains.specs.Chains.{Apart, Ends, Free, Grown, Has, Inside, counted, every_place, link_at, no_link, place, popped, pushed, with_free, without};
 
 use crate::link::Link;
 use banks::serving::{MAX_CELLS, MAX_TRAYS};
@@ -73,23 +73,28 @@ impl Links {
         self.size
     }
 
-    // Moves the place that has been free longest to the end of a tray's chain.
+    // Moves the place that has been free longest to the end of a tray's chain. What is said in all chains is said of the
+    // free one too, which is chain 128 there.
     pub(crate) fn fill(&mut self, tray: usize) -> usize
         requires is_tray { tray < 128 }
         requires has_free { 0 < self.old.free.count }
+        ensures first { result ≡ self.old.free.first }
         ensures inside { result < self.old.size }
         ensures free { Free self.old.heads self.old.next result }
         ensures grown { Grown self.old.heads self.old.next self.new.heads self.new.next tray result }
         ensures heads { self.new.heads ≡ slice_set self.old.heads tray (pushed result (link_at self.old.heads tray)) }
         ensures fewer_free { self.new.free.count + 1 ≡ self.old.free.count }
         ensures size { self.new.size ≡ self.old.size }
+        ensures free_left { self.new.free ≡ popped self.old.next self.old.free }
+        ensures free_in_all { Free (with_free self.old.heads self.new.free) self.old.next result }
+        ensures grown_in_all { Grown (with_free self.old.heads self.new.free) self.old.next (with_free self.new.heads self.new.free) self.new.next tray result }
     {
         let place = self.free.pop(&self.next);
         self.heads[tray].push(&mut self.next, place);
         usize::from(place)
     }
 
-    // Moves the first place of a tray's chain to the end of the free ones.
+    // Moves the first place of a tray's chain to the end of the free ones, which are chain 128 where all chains are seen.
     pub(crate) fn release(&mut self, tray: usize) -> usize
         requires is_tray { tray < 128 }
         requires has_place { 0 < (link_at self.old.heads tray).count }
@@ -99,6 +104,9 @@ impl Links {
         ensures kept { (k i : ℕ) → Has self.new.heads k i → place self.new.heads self.new.next k i ≡ place self.new.heads self.old.next k i }
         ensures more_free { self.new.free.count ≡ self.old.free.count + 1 }
         ensures size { self.new.size ≡ self.old.size }
+        ensures free_end { self.new.free ≡ pushed result self.old.free }
+        ensures free_in_all { Free (with_free self.new.heads self.old.free) self.old.next result }
+        ensures grown_in_all { Grown (with_free self.new.heads self.old.free) self.old.next (with_free self.new.heads self.new.free) self.new.next 128 result }
     {
         let next = &self.next;
         let place = self.heads[tray].pop(next);

@@ -1,5 +1,5 @@
 use Rattle.std.proofs.Common.{◌≡◌, ◌∙◌, refl, subst, arith, rules, length-set}
-use Rattle.chains.specs.Chains.{Free, Grown}
+use Rattle.chains.specs.Chains.{Free, Grown, with_free}
 use Rattle.chains.proofs.Shifts.{fill_shifted, free_front, grown_front}
 use Rattle.chains.proofs.links.Links.fill.Goals as goal
 
@@ -52,3 +52,17 @@ returns-clause-grown c =
     let moved : c.pop-place.result ≡ c.from.result = search rules in
     let t = fill_shifted s c.args.tray c.requires.is_tray c.requires.has_free _ _ _ _ c.pop-place.ensures.place c.push.ensures.chain c.pop-place.ensures.chain c.push.ensures.next in
     subst (Grown s.heads s.next _ _ c.args.tray) moved (grown_front s.heads _ s.next _ _ _ 128 c.args.tray _ s.whole (length-set s.heads c.args.tray _ ∙ s.whole) c.requires.is_tray t.grown)
+
+pub returns-clause-free_in_all : goal.returns-clause-free_in_all
+returns-clause-free_in_all c =
+    let s = c.args.self.now in
+    let moved : c.pop-place.result ≡ c.from.result = search rules in
+    let t = fill_shifted s c.args.tray c.requires.is_tray c.requires.has_free _ _ _ _ c.pop-place.ensures.place c.push.ensures.chain c.pop-place.ensures.chain c.push.ensures.next in
+    subst (Free (with_free s.heads c.pop-place.new.self) s.next) moved t.free
+
+pub returns-clause-grown_in_all : goal.returns-clause-grown_in_all
+returns-clause-grown_in_all c =
+    let s = c.args.self.now in
+    let moved : c.pop-place.result ≡ c.from.result = search rules in
+    let t = fill_shifted s c.args.tray c.requires.is_tray c.requires.has_free _ _ _ _ c.pop-place.ensures.place c.push.ensures.chain c.pop-place.ensures.chain c.push.ensures.next in
+    subst (Grown (with_free s.heads c.pop-place.new.self) s.next _ _ c.args.tray) moved t.grown

@@ -1,4 +1,5 @@
-use Rattle.std.proofs.Common.{◌∙◌, refl, arith, length-set}
+use Rattle.std.proofs.Common.{◌≡◌, ◌∙◌, refl, subst, arith, rules, length-set}
+use Rattle.chains.specs.Chains.{Free, Grown, with_free}
 use Rattle.chains.proofs.Shifts.{kept_front, release_shifted}
 use Rattle.chains.proofs.links.Links.release.Goals as goal
 
@@ -43,3 +44,17 @@ returns-clause-kept c =
     let s = c.args.self.now in
     let t = release_shifted s c.args.tray c.requires.is_tray c.requires.has_place _ _ _ _ c.pop-place.ensures.place c.pop-place.ensures.chain c.push.ensures.chain c.push.ensures.next in
     kept_front _ s.next _ _ _ 128 _ (length-set s.heads c.args.tray _ ∙ s.whole) t.grown
+
+pub returns-clause-free_in_all : goal.returns-clause-free_in_all
+returns-clause-free_in_all c =
+    let s = c.args.self.now in
+    let moved : c.pop-place.result ≡ c.from.result = search rules in
+    let t = release_shifted s c.args.tray c.requires.is_tray c.requires.has_place _ _ _ _ c.pop-place.ensures.place c.pop-place.ensures.chain c.push.ensures.chain c.push.ensures.next in
+    subst (Free (with_free _ s.free) s.next) moved t.free
+
+pub returns-clause-grown_in_all : goal.returns-clause-grown_in_all
+returns-clause-grown_in_all c =
+    let s = c.args.self.now in
+    let moved : c.pop-place.result ≡ c.from.result = search rules in
+    let t = release_shifted s c.args.tray c.requires.is_tray c.requires.has_place _ _ _ _ c.pop-place.ensures.place c.pop-place.ensures.chain c.push.ensures.chain c.push.ensures.next in
+    subst (Grown (with_free _ s.free) s.next _ _ 128) moved t.grown
