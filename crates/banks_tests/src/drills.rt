@@ -11,12 +11,16 @@ pub(crate) fn fill_and_empty<B: Bank<Item = Note>>(
     bank: &mut B,
     tray: usize,
 ) -> Result<usize, Fail> {
-    let placed = (0u32..2_000)
-        .take_while(|&receipt| bank.put(tray, receipt, Note::default()).is_ok())
-        .count();
+    let (placed, refusal) = (0u32..2_000)
+        .find_map(|receipt| {
+            let refused = bank.put(tray, receipt, Note::default()).err();
+            refused.map(|refusal| (receipt, refusal))
+        })
+        .ok_or_else(|| Fail::new("no put was refused"))?;
+    assert_eq!(rt; refusal, Refusal::Full);
     assert_eq!(rt; bank.put(tray, 2_000, Note::default()), Err(Refusal::Full));
     let held = bank.count(tray);
-    for receipt in (0u32..2_000).take(placed) {
+    for receipt in 0..placed {
         let cell = bank
             .take(tray)
             .ok_or_else(|| Fail::new("a cell is missing"))?;
