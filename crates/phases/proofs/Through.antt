@@ -20,7 +20,6 @@ use Rattle.dispatcher.specs.Views.{View, view}
 use Rattle.dispatcher.specs.WholeRuns.{Led}
 use Rattle.dispatcher.proofs.RealRuns.{follows_accounts, follows_obeys}
 use Rattle.phases.specs.Calls.{Called, counted, one_more}
-use Rattle.phases.specs.declared.phase.TheConstants.{MOST_COUNTED}
 use Rattle.phases.specs.Rounds.{CallsThrough, LedOn, Stays, given_out}
 
 -- a call that leaves the cycle as it is
@@ -83,7 +82,7 @@ dispatch_count n (Ok None) = refl
 dispatch_count n (Ok (Some e)) = refl
 dispatch_count n (Err k) = refl
 
-min_one_more : (x n : ℕ) → n ≡ min x MOST_COUNTED → one_more n ≡ min (x + 1) MOST_COUNTED
+min_one_more : (x n : ℕ) → n ≡ min x 4000000000 → one_more n ≡ min (x + 1) 4000000000
 min_one_more x n e = omega arith
 
 pub count_more : {M : Type 0} (h : History M) (a : Event M) (n : ℕ) → n ≡ given_out h → told_count n a ≡ given_out (h ++ a ∷ [])
@@ -93,14 +92,14 @@ count_more h a n e = go (gives_out a) refl
     push t f = sum_by_push (λ x. cond (gives_out x) 1 0) h a ∙ ap (λ t. count_by gives_out h + cond t 1 0) f
 
     go : (t : Bool) → gives_out a ≡ t → cond t (one_more n) n ≡ given_out (h ++ a ∷ [])
-    go true f = min_one_more (count_by gives_out h) n e ∙ ap (λ k. min k MOST_COUNTED) (sym (push true f))
-    go false f = let p = push false f in e ∙ ap (λ k. min k MOST_COUNTED) (omega arith)
+    go true f = min_one_more (count_by gives_out h) n e ∙ ap (λ k. min k 4000000000) (sym (push true f))
+    go false f = let p = push false f in e ∙ ap (λ k. min k 4000000000) (omega arith)
 
 count_join : {M : Type 0} (h k : History M) (n : ℕ) → 0 ≡ given_out h → n ≡ given_out k → n ≡ given_out (h ++ k)
 count_join h k n z e =
     let j = sum_by-append (λ x. cond (gives_out x) 1 0) h k in
     let none : count_by gives_out h ≡ 0 = omega arith in
-    e ∙ ap (λ x. min x MOST_COUNTED) (omega arith)
+    e ∙ ap (λ x. min x 4000000000) (omega arith)
 
 module _ {B M : Type 0} {bg : Trays.Ghosts B M} {mg : Message.Ghosts M} {ig : Timed.Ghosts M} where
   pub none_through : {z n : ℕ} {d : Dispatcher B M bg mg ig} → n ≡ 0 → CallsThrough z n d d []

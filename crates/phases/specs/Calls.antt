@@ -20,12 +20,11 @@ use Rattle.phases.specs.declared.phase.Detect.{Detect}
 use Rattle.phases.specs.declared.phase.NextCycle.{NextCycle}
 use Rattle.phases.specs.declared.phase.Output.{Output}
 use Rattle.phases.specs.declared.phase.Report.{Report}
-use Rattle.phases.specs.declared.phase.TheConstants.{MOST_COUNTED}
 use Rattle.phases.specs.declared.refused.Refused.{Refused}
 
 -- a count of dispatches, after one more
 abbrev pub one_more : ℕ → ℕ
-one_more n = min (n + 1) MOST_COUNTED
+one_more n = min (n + 1) 4000000000
 
 -- a count of dispatches, after a call that answered so
 abbrev pub counted : {E : Type 0} → ℕ → Result (Option E) Refusal → ℕ

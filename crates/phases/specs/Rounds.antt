@@ -17,7 +17,6 @@ use Rattle.dispatcher.specs.Views.{View, view}
 use Rattle.dispatcher.specs.WholeRuns.{Accounts, Led, Obeys}
 use Rattle.phases.specs.declared.phase.Output.{Output}
 use Rattle.phases.specs.declared.phase.Report.{Report}
-use Rattle.phases.specs.declared.phase.TheConstants.{MOST_COUNTED}
 use Rattle.phases.specs.declared.refused.Refused.{Refused}
 use Rattle.phases.specs.declared.round.Round.{Round}
 use Rattle.phases.specs.declared.stop.Held.{Held}
@@ -47,7 +46,7 @@ pub record LedOn {M : Type 0} (b : Terms M) (w : View M) (calls : List (Call M))
 
 -- how many entries the calls gave out, as a phase counts them
 abbrev pub given_out : {M : Type 0} → History M → ℕ
-given_out h = min (count_by gives_out h) MOST_COUNTED
+given_out h = min (count_by gives_out h) 4000000000
 
 -- why a report phase cannot be left in the state m, in the phase's own cycle
 abbrev pub keeps_in_report : {M : Type 0} → State M → Option Refusal

@@ -4,7 +4,6 @@
 // reach the next one.
 ghost use Rattle.std.specs.Prelude.{◌≡◌, ◌≢◌, ◌≤◌, IfErr, OnOk};
 ghost use Rattle.dispatcher.specs.Views.{view};
-ghost use Rattle.phases.specs.declared.phase.TheConstants.{MOST_COUNTED};
 ghost use Rattle.messages.specs.declared.refusal.Refusal.TheVariants.{OutOfPhase};
 
 use banks::bank::Bank;
@@ -38,7 +37,7 @@ pub struct React {
     cycle: u32,
     // how many entries were dispatched; it stays at `MOST_COUNTED`
     dispatched: u32,
-    ghost few: { dispatched ≤ MOST_COUNTED },
+    ghost few: { dispatched ≤ 4000000000 },
 }
 
 // The reaction is given out, and the timer begins the next cycle. The count is that of the react phase; a type of its own
@@ -47,7 +46,7 @@ pub struct React {
 pub struct Output {
     cycle: u32,
     dispatched: u32,
-    ghost few: { dispatched ≤ MOST_COUNTED },
+    ghost few: { dispatched ≤ 4000000000 },
 }
 
 // What an accepted turn answers: how many entries became late, and the report phase of the new cycle.

@@ -4,7 +4,7 @@ ghost use Rattle.dispatcher.specs.declared.call.Call.TheVariants.{Turn};
 ghost use Rattle.dispatcher.specs.declared.event.Event.TheVariants.{Turned};
 ghost use Rattle.phases.specs.Calls.{Called, Turns};
 
-use crate::phase::{MOST_COUNTED, NextCycle, Output, Report, in_cycle};
+use crate::phase::{NextCycle, Output, Report, in_cycle};
 use crate::refused::Refused;
 use banks::bank::Bank;
 use dispatcher::dispatcher::Dispatcher;
@@ -14,7 +14,7 @@ use messages::refusal::Refusal;
 impl Output {
     // How many entries were dispatched in this cycle's react phase.
     pub fn dispatched(&self) -> u32
-        ensures { (result ≡ self.now.dispatched) × (result ≤ MOST_COUNTED) }
+        ensures { (result ≡ self.now.dispatched) × (result ≤ 4000000000) }
     {
         self.dispatched
     }
