@@ -3,13 +3,15 @@ use crate::players::{entry, note, play};
 use banks::bank::Bank;
 use banks::cell::Cell;
 use dispatcher::call::Call;
-use dispatcher::dispatcher::calls::LIMIT;
 use dispatcher::event::Event;
 use messages::note::Note;
 use messages::refusal::Refusal;
 use rows::row_bank::RowBank;
 use std::process::Abort;
 use std::test::Fail;
+
+// The largest cycle and the largest receipt, written out here too, so that a slip in those of the dispatcher shows.
+const LIMIT: u32 = 4_000_000_000;
 
 // Plays the calls over a row bank of eight cells and so many trays.
 fn play_over_rows(
