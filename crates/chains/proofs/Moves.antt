@@ -172,14 +172,14 @@ trays_held cells next n heads size inside fits =
 
 -- chains of which none has a place
 
-counted_none : (n : ℕ) → counted (replicate n no_link) ≡ 0
+pub counted_none : (n : ℕ) → counted (replicate n no_link) ≡ 0
 counted_none zero = refl
 counted_none (suc n) = let e = counted_none n in omega arith
 
 pub counted_fresh : (n m : ℕ) → n ≤ m → counted (take n (replicate m no_link)) ≡ 0
 counted_fresh n m l = ap counted (take-replicate n m no_link l) ∙ counted_none n
 
-rows_none : {C : Type 0} (cells : List C) (next : List ℕ) (n : ℕ) → chain_rows cells next (replicate n no_link) ≡ replicate n []
+pub rows_none : {C : Type 0} (cells : List C) (next : List ℕ) (n : ℕ) → chain_rows cells next (replicate n no_link) ≡ replicate n []
 rows_none cells next zero = refl
 rows_none cells next (suc n) = ap (λ t. [] ∷ t) (rows_none cells next n)
 

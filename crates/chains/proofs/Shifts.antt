@@ -220,7 +220,7 @@ inside_trays s k i has =
 
 -- every place is free
 module _ (next : List ℕ) (size : ℕ) (each : (k : ℕ) → k < 1024 → get_or next k 0 ≡ k + 1) (small : size ≤ 1024) where
-  step_id : (a : ℕ) → a ≤ 1024 → step next 0 a ≡ a
+  pub step_id : (a : ℕ) → a ≤ 1024 → step next 0 a ≡ a
   step_id zero l = refl
   step_id (suc a) l = ap (λ p. get_or next p 0) (step_id a (omega arith)) ∙ each a (omega arith) ∙ add-one a
 

@@ -180,11 +180,11 @@ module _ {B M : Type 0} {t : Trays.Ghosts B M} {m : Message.Ghosts M} {i : Timed
       }
 
 -- what goes as the machine goes carries the law on
-carries_on : {M : Type 0} (v w : View M) (c : Call M) (a : Event M) → Simulates v w c a → CarriesOn v w c a
+pub carries_on : {M : Type 0} (v w : View M) (c : Call M) (a : Event M) → Simulates v w c a → CarriesOn v w c a
 carries_on v w c a k b cs h f =
     let g = follows_more b v w cs h c a f k in (g, follows_obeys b w (cs ++ c ∷ []) (h ++ a ∷ []) g)
 
-accounts_on : {M : Type 0} (v w : View M) (c : Call M) (a : Event M) → Simulates v w c a → AccountsNext v w c a
+pub accounts_on : {M : Type 0} (v w : View M) (c : Call M) (a : Event M) → Simulates v w c a → AccountsNext v w c a
 accounts_on v w c a k b cs h f = follows_accounts b w (cs ++ c ∷ []) (h ++ a ∷ []) (follows_more b v w cs h c a f k)
 
 pub lawful : {B M : Type 0} {t : Trays.Ghosts B M} {m : Message.Ghosts M} {i : Timed.Ghosts M} (before after : Dispatcher B M t m i) (c : Call M) (a : Event M) → Simulates (view before) (view after) c a → LawfulCall before after c a
