@@ -4,6 +4,7 @@ use banks::bank::Bank;
 use banks::cell::Cell;
 use chains::chain_bank::ChainBank;
 use messages::note::Note;
+use messages::pen::PenMessage;
 use messages::refusal::Refusal;
 use rows::row_bank::RowBank;
 use std::process::Abort;
@@ -88,4 +89,11 @@ fn the_table_comes_back_with_what_was_put(rt: HostRuntime) {
         assert_eq!(rt; bank.put(1, 8, Note::default()), Ok(()));
     }
     assert_eq!(rt; table.map(|cell| cell.receipt), [0, 0, 9, 8]);
+}
+
+// The constants for tables of blank cells are what `default` gives.
+#[test]
+fn a_blank_message_is_the_default(rt: HostRuntime) {
+    assert_eq!(rt; Note::BLANK, Note::default());
+    assert_eq!(rt; PenMessage::BLANK, PenMessage::default());
 }

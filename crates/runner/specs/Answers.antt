@@ -4,7 +4,7 @@ use Rattle.messages.specs.declared.refusal.Refusal.TheVariants.{OutputTooShort}
 use Rattle.runner.specs.declared.listing.Unlisted.{Unlisted}
 use Rattle.runner.specs.declared.listing.Unlisted.TheVariants.{NoMemory, Refused}
 use Rattle.runner.specs.Files.{HasHeader}
-use Rattle.runner.specs.Listings.{IsListing}
+use Rattle.runner.specs.Listings.{IsListing, ListsFault}
 use Rattle.runner.specs.Output.{Holds}
 
 -- an output of so many bytes holds every listing
@@ -21,7 +21,7 @@ Lists file before after (Err (Refused k)) =
 Lists file before after (Err (NoMemory e)) =
     (output_size ≤ length before) × HasHeader file × (after ≡ before)
 
--- the listing of a file whose header is unlawful, and its length; of another file nothing, and then the output is what it was
+-- the header is unlawful, and this is the listing and its length; or it is lawful, and the output is what it was
 abbrev pub ListsHeaderFault : List ℕ → List ℕ → List ℕ → Option ℕ → Type 0
-ListsHeaderFault file before after (Some n) = (text : List ℕ) × IsListing file text × Holds text before after n
+ListsHeaderFault file before after (Some n) = (text : List ℕ) × ListsFault file text × Holds text before after n
 ListsHeaderFault file before after None = HasHeader file × (after ≡ before)

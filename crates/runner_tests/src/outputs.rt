@@ -1,6 +1,6 @@
 // Outputs of just the size that holds every listing, of one byte less and of more.
 use messages::refusal::Refusal;
-use runner::listing::{OUTPUT, Unlisted, list};
+use runner::listing::{FAULT_LINE, OUTPUT, Unlisted, list, list_header_fault};
 use std::process::Abort;
 use std::test::Fail;
 
@@ -59,6 +59,20 @@ fn a_fault_in_a_record_ends_the_listing(rt: HostRuntime) -> Result<(), Fail> {
 #[test]
 fn a_fault_in_the_header_is_all(rt: HostRuntime) -> Result<(), Fail> {
     lists(&rt, &LESSON[0..4], OUTPUT, b"F 13 4\n")
+}
+
+#[test]
+fn a_fault_in_the_header_is_told_in_eleven_bytes(rt: HostRuntime) {
+    let mut line = [OLD; FAULT_LINE];
+    assert_eq!(rt; list_header_fault(&LESSON[0..5], &mut line), Some(7));
+    assert_eq!(rt; line, *b"F 13 5\n\x07\x07\x07\x07");
+}
+
+#[test]
+fn a_file_with_a_lawful_header_is_not_told_as_its_fault(rt: HostRuntime) {
+    let mut line = [OLD; FAULT_LINE];
+    assert_eq!(rt; list_header_fault(&LESSON[0..30], &mut line), None);
+    assert_eq!(rt; line, [OLD; FAULT_LINE]);
 }
 
 #[test]

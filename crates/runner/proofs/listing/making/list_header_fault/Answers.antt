@@ -1,6 +1,5 @@
 use Rattle.std.proofs.Common.{Some, refl, arith}
 use Rattle.runner.specs.Lines.{fault_line}
-use Rattle.runner.specs.Listings.{of_no_header}
 use Rattle.runner.proofs.Holding.{wrote_holds}
 use Rattle.runner.proofs.Listed.{fault_short, header_brief}
 use Rattle.runner.proofs.Playing.{file_has_header}
@@ -16,4 +15,4 @@ returns-in-Err c =
     let e = c.in-Err.ensures in
     let l = fault_short (Some fault) (header_brief c.args.file.now fault e.opened e.header) in
     let p = c.write_fault.ensures.place in
-    (fault_line (Some fault), of_no_header (record { fault = fault; faulty = e.opened; early = e.header; lines = refl }), wrote_holds _ _ _ _ c.write_fault.ensures (omega arith))
+    (fault_line (Some fault), record { fault = fault; faulty = e.opened; early = e.header; lines = refl }, wrote_holds _ _ _ _ c.write_fault.ensures (omega arith))
