@@ -23,21 +23,22 @@ impl<M: Posted> Step<M> {
         ensures { Reads (IsStep M.Posted.format) 10 bytes.now result }
     {
         let first = bytes.first().ok_or(Unlawful { lawful_up_to: 0 })?;
-        // the byte is the format's, and what it stands for is a step
-        match *first {
-            1 => Ok(Step::Post(M::read_post(bytes)?)),
+        // The byte is the format's, and what it stands for is a step. The last arm returns at once: with its error as a
+        // value of the `match`, every post that is read passes through memory twice more, which takes half as long again.
+        Ok(match *first {
+            1 => Step::Post(M::read_post(bytes)?),
             2 => {
                 read_bare(bytes, 2)?;
-                Ok(Step::Dispatch)
+                Step::Dispatch
             }
-            3 => Ok(Step::Turn(read_number(bytes, 3)?)),
+            3 => Step::Turn(read_number(bytes, 3)?),
             4 => {
                 read_bare(bytes, 4)?;
-                Ok(Step::Name)
+                Step::Name
             }
-            5 => Ok(Step::Warn(read_number(bytes, 5)?)),
-            _ => Err(Unlawful { lawful_up_to: 0 }),
-        }
+            5 => Step::Warn(read_number(bytes, 5)?),
+            _ => return Err(Unlawful { lawful_up_to: 0 }),
+        })
     }
 }
 
