@@ -23,8 +23,8 @@ impl<M: Posted> Step<M> {
         ensures { Reads (IsStep M.Posted.format) 10 bytes.now result }
     {
         let first = bytes.first().ok_or(Unlawful { lawful_up_to: 0 })?;
-        // The byte is the format's, and what it stands for is a step. The last arm returns at once: with its error as a
-        // value of the `match`, every post that is read passes through memory twice more, which takes half as long again.
+        // The byte is the format's, and what it stands for is a step. The last arm returns, since with its error as a
+        // value of the `match` a pen message goes through memory three times in place of once, and is read more slowly.
         Ok(match *first {
             1 => Step::Post(M::read_post(bytes)?),
             2 => {
